@@ -1,0 +1,4 @@
+pub mod Loads
+pub mod Sure
+pub mod Filling
+pub mod Trips

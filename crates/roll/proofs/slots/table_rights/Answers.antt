@@ -1,0 +1,25 @@
+use mathlib.Core.Path.{_≡_, refl, sym, ap, _∙_}
+use mathlib.Core.Logic.{_≢_}
+use mathlib.Core.List.{map}
+use Prim.Native.Nat.{ℕ, _<_}
+use native.Mathlib.Omega.{arith}
+use lib.ListN.{length, getD, set, length-map, List·getD-map}
+use borrow.Author.Count.{below-more}
+use Rattle.std.proofs.shelf.Lists.{ext-getD, length-set, getD-set-same, getD-set-other}
+use Rattle.roll.specs.Slots.{rightsOf}
+use Rattle.roll.proofs.slots.table_rights.Needs as need
+
+pub loop-u-again : need.loop-u-again
+loop-u-again c =
+    let b = getD (c .args .bytes .now) (c .loop-u .u) 0 in (
+      length-set (c .loop-u .rights) (c .loop-u .u) (rightsOf b) ∙ c .loop-u .inv .0,
+      below-more _ _
+          (λ k h. let ne : k ≢ c .loop-u .u = omega arith in getD-set-other (c .loop-u .rights) (c .loop-u .u) k (rightsOf b) (rightsOf 0) ne ∙ c .loop-u .inv .1 k h)
+          (getD-set-same (c .loop-u .rights) (c .loop-u .u) (rightsOf b) (rightsOf 0) (omega (arith, c .loop-u .inv .0))),
+    )
+
+pub returns : need.returns
+returns c =
+    ext-getD (rightsOf 0) (c .loop-u .rights) (map rightsOf (c .args .bytes .now))
+    (c .loop-u .inv .0 ∙ sym (length-map (c .args .bytes .now) rightsOf ∙ c .told-bytes))
+    (λ i h. c .loop-u .inv .1 i (omega (arith, c .loop-u .inv .0)) ∙ sym (List·getD-map rightsOf (c .args .bytes .now) i 0))

@@ -1,0 +1,5 @@
+//! The roll: the tables as a canonical run of bytes.
+mod reading;
+mod slots;
+
+pub use reading::read_tables;
