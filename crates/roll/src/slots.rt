@@ -33,7 +33,7 @@ fn table_rights(bytes: &[u8; 16]) -> [Rights; 16]
 }
 
 /// The user that a record describes.
-pub fn table_user(u: &UserRecord) -> User
+pub(crate) fn table_user(u: &UserRecord) -> User
     ensures { λ r. ⌜ r ≡ userOf (now (u .entry)) ⌝ }
 {
     User {
@@ -46,14 +46,14 @@ pub fn table_user(u: &UserRecord) -> User
 }
 
 /// The role that a record describes.
-pub fn table_role(g: &GroupRecord) -> Rights
+pub(crate) fn table_role(g: &GroupRecord) -> Rights
     ensures { λ r. ⌜ r ≡ roleOf (now (g .entry)) ⌝ }
 {
     Rights(g.role)
 }
 
 /// The object that a record describes.
-pub fn table_object(o: &ObjectRecord) -> Object
+pub(crate) fn table_object(o: &ObjectRecord) -> Object
     ensures { λ r. ⌜ r ≡ objectOf (now (o .entry)) ⌝ }
 {
     Object {

@@ -5,7 +5,7 @@ ghost use Rattle.std.specs.Options.{mapped};
 ghost use Rattle.std.specs.declared.option.Option.the-variants.{Some, None};
 
 /// What slot `i` holds, copied.
-pub fn slot<T: Copy>(table: &[Option<T>], i: u8) -> Option<T>
+pub(crate) fn slot<T: Copy>(table: &[Option<T>], i: u8) -> Option<T>
     ensures { λ r. ⌜ r ≡ getD (now (table .entry)) i None ⌝ }
 {
     if (i as usize) < table.len() {
@@ -16,7 +16,7 @@ pub fn slot<T: Copy>(table: &[Option<T>], i: u8) -> Option<T>
 }
 
 /// What slot `i` holds, lent.
-pub fn slot_ref<T>(table: &[Option<T>], i: u8) -> Option<&T>
+pub(crate) fn slot_ref<T>(table: &[Option<T>], i: u8) -> Option<&T>
     ensures { λ r. ⌜ mapped now r ≡ getD (now (table .entry)) i None ⌝ }
 {
     if (i as usize) < table.len() {
@@ -30,7 +30,7 @@ pub fn slot_ref<T>(table: &[Option<T>], i: u8) -> Option<&T>
 }
 
 /// Writes `v` into slot `i`.
-pub fn put<T: Copy>(table: &mut [Option<T>], i: u8, v: Option<T>)
+pub(crate) fn put<T: Copy>(table: &mut [Option<T>], i: u8, v: Option<T>)
     ensures { λ _. ⌜ now (table .exit) ≡ set (now (table .entry)) i v ⌝ }
 {
     if (i as usize) < table.len() {

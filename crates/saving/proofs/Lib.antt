@@ -1,0 +1,4 @@
+pub mod Writing
+pub mod Taking
+pub mod Sizes
+pub mod Walking

@@ -1,0 +1,3 @@
+pub mod Saves
+pub mod Takes
+pub mod Writes
