@@ -34,8 +34,8 @@ use Rattle.roll.proofs.Trips.{taken-saved, taken-formed, saved-taken, saved-rol
 use Rattle.saving.specs.declared.saves.NoRoom.{NoRoom}
 use Rattle.monitor.specs.declared.faults.RollFault.{RollFault}
 use Rattle.monitor.specs.declared.faults.RollFault.the-variants as of-roll
-use Rattle.monitor.specs.Loads.{Tells, Loads, One-answer, Steady, Saves, Returns}
-use Rattle.saving.specs.Saves.{saved}
+use Rattle.monitor.specs.Loads.{Tells, Loads, One-answer, Steady, Returns}
+use Rattle.saving.specs.Saves.{saved, Stored, Refused}
 
 says-ok : (bytes : List ℕ) (t u : Tables) → Says bytes (Ok t) → Says bytes (Ok u) → t ≡ u
 says-ok bytes t u a b = let e = sure bytes (Ok t) (Ok u) a b in cc
@@ -109,16 +109,10 @@ returns-saved m t buf rest n steady long e = elim (steady .either) [
   | inr sound ↦ inr (subst (λ (bs : List ℕ). Loads m bs (Ok tt) (alone t)) (sym (ap (take n) e ∙ take-at (saved t) rest n (sym long))) (loads-back m t (steady .formed) sound))
 ]
 
-pub save-blank : (t : Tables) (r : Result ℕ NoRoom) (before after : List ℕ) → Saves t r before after → t ≡ blank → made r (λ n. n ≡ 0)
-save-blank t (Ok n) before after s e = s .0 ∙ ap (λ (x : Tables). length (saved x)) e
+pub save-blank : (t : Tables) (r : Result ℕ NoRoom) (before after : List ℕ) → Cases r (Stored (saved t) before after) (λ _. Refused (saved t) before after) → t ≡ blank → made r (λ n. n ≡ 0)
+save-blank t (Ok n) before after s e = s .all ∙ ap (λ (x : Tables). length (saved x)) e
 save-blank t (Err x) before after s e = tt
 
-pub save-back : (m : Meaning) (t : Tables) (r : Result ℕ NoRoom) (before after : List ℕ) → Saves t r before after → Steady m t → Returns m t after r
-save-back m t (Ok n) before after s steady = returns-saved m t after (drop n before) n steady (s .0) (s .2)
+pub save-back : (m : Meaning) (t : Tables) (r : Result ℕ NoRoom) (before after : List ℕ) → Cases r (Stored (saved t) before after) (λ _. Refused (saved t) before after) → Steady m t → Returns m t after r
+save-back m t (Ok n) before after s steady = returns-saved m t after (drop n before) n steady (s .all) (s .there)
 save-back m t (Err x) before after s steady = tt
-
--- in the words of `save`
-pub as-saves : (t : Tables) (r : Result ℕ NoRoom) (before after : List ℕ)
-    → Cases r (λ n. (n ≡ length (saved t)) × (n ≤ length before) × (after ≡ saved t ++ drop n before)) (λ _. (length before < length (saved t)) × (after ≡ before)) → Saves t r before after
-as-saves t (Ok n) before after s = s
-as-saves t (Err x) before after s = s

@@ -1,9 +1,9 @@
 -- What loading a roll answers and leaves. Assumes nothing.
 use mathlib.Core.Path.{_≡_}
 use mathlib.Core.Logic.{_⊎_}
-use mathlib.Core.List.{List, _++_}
-use Prim.Native.Nat.{ℕ, _<_, _≤_}
-use lib.ListN.{length, take, drop}
+use mathlib.Core.List.{List}
+use Prim.Native.Nat.{ℕ}
+use lib.ListN.{length, take}
 use Rattle.std.specs.declared.result.Result.{Result}
 use Rattle.std.specs.declared.result.Result.the-variants.{Ok, Err}
 use Rattle.labels.specs.Meaning.{Meaning}
@@ -36,12 +36,6 @@ One-answer m = (bytes : List ℕ) (r s : Result (Unit {0}) RollFault) (t u : Tab
 pub record Steady (m : Meaning) (t : Tables) : Type 0 where
   pub formed : Formed t
   pub either : (t ≡ blank) ⊎ Sound m t
-
--- What saving answers and leaves in the buffer: the length, and the bytes in front with the later ones as they were; or that there is no room, and
--- nothing is written.
-abbrev pub Saves : Tables → Result ℕ NoRoom → List ℕ → List ℕ → Type 0
-Saves t (Ok n) before after = (n ≡ length (saved t)) × (n ≤ length before) × (after ≡ saved t ++ drop n before)
-Saves t (Err e) before after = (length before < length (saved t)) × (after ≡ before)
 
 -- What was saved into the front of a buffer loads back to the same tables, subjects aside; blank tables are saved as no bytes.
 abbrev pub Returns : Meaning → Tables → List ℕ → Result ℕ NoRoom → Type 0

@@ -9,7 +9,8 @@ use borrow.Rule.Slice.PartMut.{putMid}
 use Rattle.std.proofs.shelf.Lists.{drop-drop, length-take-le, take-at, drop-at}
 use Rattle.saving.specs.declared.sinks.Counter.{Counter}
 use Rattle.saving.specs.declared.sinks.Writer.{Writer}
-use Rattle.saving.specs.Writes.{wrote, Counted, Written}
+use Rattle.saving.specs.Saves.{wrote}
+use Rattle.saving.specs.Writes.{Counted, Written}
 
 pub wrote-none : (buf : List ℕ) (p : ℕ) → buf ≡ wrote buf p []
 wrote-none buf p = sym (ap (λ k. take p buf ++ drop k buf) (add-zero p) ∙ take-append-drop p buf)

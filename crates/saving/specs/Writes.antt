@@ -1,14 +1,11 @@
--- What a sink has after it took bytes.
+-- What each sink has after it took bytes from the state a to the state b.
 use mathlib.Core.Path.{_≡_}
-use mathlib.Core.List.{List, _++_}
+use mathlib.Core.List.{List}
 use Prim.Native.Nat.{ℕ, min, _+_, _-_, _^_, _≤_}
-use lib.ListN.{length, take, drop}
+use lib.ListN.{length}
 use Rattle.saving.specs.declared.sinks.Counter.{Counter}
 use Rattle.saving.specs.declared.sinks.Writer.{Writer}
-
--- xs stands from the place on, and all else stays
-abbrev pub wrote : List ℕ → ℕ → List ℕ → List ℕ
-wrote buf place xs = take place buf ++ (xs ++ drop (place + length xs) buf)
+use Rattle.saving.specs.Saves.{wrote}
 
 -- the bytes xs were counted, up to the largest number
 abbrev pub Counted : Counter → List ℕ → Counter → Type 0

@@ -1,13 +1,12 @@
 //! What stands in the slots of the tables, written as records.
 ghost use mathlib.Core.Path.{_≡_};
-ghost use mathlib.Core.List.{map, _++_};
-ghost use Prim.Native.Nat.{ℕ, _*_, _≤_};
+ghost use mathlib.Core.List.{map};
+ghost use Prim.Native.Nat.{ℕ, _≤_};
 ghost use lib.ListN.{length};
-ghost use Rattle.std.specs.Joined.{joined};
 ghost use Rattle.records.specs.declared.forms.Record.{Record};
 ghost use Rattle.records.specs.declared.forms.Record.the-variants as record-of;
 ghost use Rattle.records.specs.Records.{encode};
-ghost use Rattle.roll.specs.Slots.{kindNumber, rightsByte, userRecord, groupRecord, objectRecord, slots};
+ghost use Rattle.roll.specs.Slots.{kindNumber, rightsByte, userRecord, groupRecord, objectRecord};
 ghost use Rattle.saving.specs.Takes.{Took};
 use crate::fields::put_byte;
 use crate::fields::put_rights;
@@ -26,6 +25,7 @@ use tables::types::Kind;
 use tables::types::Object;
 use tables::types::User;
 
+/// A group's record.
 fn put_group<S: Sink>(out: &mut S, g: &GroupRecord)
     ensures { λ _. ⌜ Took (S·Sink .puts) (now (out .entry)) (encode (record-of.Group (now (g .entry)))) (now (out .exit)) ⌝ }
 {
@@ -33,6 +33,7 @@ fn put_group<S: Sink>(out: &mut S, g: &GroupRecord)
     put_byte(out, g.role);
 }
 
+/// A user's record.
 fn put_user<S: Sink>(out: &mut S, u: &UserRecord)
     ensures { λ _. ⌜ Took (S·Sink .puts) (now (out .entry)) (encode (record-of.User (now (u .entry)))) (now (out .exit)) ⌝ }
 {
@@ -43,6 +44,7 @@ fn put_user<S: Sink>(out: &mut S, u: &UserRecord)
     put_u64(out, u.top);
 }
 
+/// An object's record.
 fn put_object<S: Sink>(out: &mut S, o: &ObjectRecord)
     ensures { λ _. ⌜ Took (S·Sink .puts) (now (out .entry)) (encode (record-of.Object (now (o .entry)))) (now (out .exit)) ⌝ }
 {
@@ -55,7 +57,8 @@ fn put_object<S: Sink>(out: &mut S, o: &ObjectRecord)
     put_rights(out, &o.rights);
 }
 
-fn put_record<S: Sink>(out: &mut S, r: &Record)
+/// A record: its map, kind and number, then the fields that are not zero.
+pub(crate) fn put_record<S: Sink>(out: &mut S, r: &Record)
     ensures { λ _. ⌜ Took (S·Sink .puts) (now (out .entry)) (encode (now (r .entry))) (now (out .exit)) ⌝ }
 {
     match r {
@@ -65,11 +68,12 @@ fn put_record<S: Sink>(out: &mut S, r: &Record)
     }
 }
 
-/// What a slot holds, as a record with the slot's number.
+/// What a slot of the tables may hold.
 pub trait Entry {
+    /// The record of one, with the number of its slot.
     ghost written: { ℕ → Self → Record };
 
-    /// How many bytes it takes at most.
+    /// How many bytes a record takes at most.
     ghost most: { ℕ };
 
     fn record(&self, number: u8) -> Record
@@ -107,6 +111,7 @@ pub impl Entry for Rights as RightsEntry {
     }
 }
 
+/// The number of a kind in a record.
 fn kind_number(k: Kind) -> u8
     ensures { λ r. ⌜ r ≡ kindNumber k ⌝ }
 {
@@ -117,6 +122,7 @@ fn kind_number(k: Kind) -> u8
     }
 }
 
+/// The rights as bytes.
 fn rights_bytes(rights: &[Rights; 16]) -> [u8; 16]
     ensures is { λ r. ⌜ r ≡ map rightsByte (now (rights .entry)) ⌝ }
     ensures long { λ r. ⌜ length r ≡ 16 ⌝ }
@@ -144,18 +150,5 @@ pub impl Entry for Object as ObjectEntry {
             groups: self.groups.0,
             rights: rights_bytes(&self.rights),
         })
-    }
-}
-
-/// The slots that are not empty, in ascending order.
-pub(crate) fn put_slots<S: Sink, T: Entry>(out: &mut S, xs: &[Option<T>])
-    requires { ⌜ length (now xs) ≤ 256 ⌝ }
-    ensures put { λ _. ⌜ Took (S·Sink .puts) (now (out .entry)) (joined encode (slots (T·Entry .written) 0 (now (xs .entry)))) (now (out .exit)) ⌝ }
-    ensures short { λ _. ⌜ length (joined encode (slots (T·Entry .written) 0 (now (xs .entry)))) ≤ T·Entry .most * length (now (xs .entry)) ⌝ }
-{
-    for i in 0..xs.len() {
-        if let Some(x) = &xs[i] {
-            put_record(out, &x.record(i as u8));
-        }
     }
 }

@@ -1,27 +1,29 @@
 //! The fields of a record: each is left out where it is zero.
-ghost use mathlib.Core.Path.{_≡_};
 ghost use Rattle.records.specs.Records.{field};
 ghost use Rattle.records.specs.Rights.{bytesOf, rightsBody};
 ghost use Rattle.saving.specs.Takes.{Took};
 use crate::sinks::Sink;
 use records::marks_of;
 
-pub(crate) fn put_byte<S: Sink>(out: &mut S, v: u8)
-    ensures { λ _. ⌜ Took (S·Sink .puts) (now (out .entry)) (field 1 v) (now (out .exit)) ⌝ }
+/// A field of one byte.
+pub(crate) fn put_byte<S: Sink>(out: &mut S, b: u8)
+    ensures { λ _. ⌜ Took (S·Sink .puts) (now (out .entry)) (field 1 b) (now (out .exit)) ⌝ }
 {
-    if v != 0 {
-        out.put(&[v]);
+    if b != 0 {
+        out.put(&[b]);
     }
 }
 
-pub(crate) fn put_u16<S: Sink>(out: &mut S, v: u16)
-    ensures { λ _. ⌜ Took (S·Sink .puts) (now (out .entry)) (field 2 v) (now (out .exit)) ⌝ }
+/// A field of two bytes.
+pub(crate) fn put_u16<S: Sink>(out: &mut S, n: u16)
+    ensures { λ _. ⌜ Took (S·Sink .puts) (now (out .entry)) (field 2 n) (now (out .exit)) ⌝ }
 {
-    if v != 0 {
-        out.put(&v.to_le_bytes());
+    if n != 0 {
+        out.put(&n.to_le_bytes());
     }
 }
 
+/// A field of eight bytes.
 pub(crate) fn put_u64<S: Sink>(out: &mut S, v: u64)
     ensures { λ _. ⌜ Took (S·Sink .puts) (now (out .entry)) (field 8 v) (now (out .exit)) ⌝ }
 {

@@ -1,15 +1,18 @@
 //! Saves the tables.
 ghost use mathlib.Core.Path.{_≡_};
-ghost use mathlib.Core.List.{_++_};
-ghost use Prim.Native.Nat.{_<_, _≤_};
-ghost use lib.ListN.{length, drop};
+ghost use Prim.Native.Nat.{_*_, _≤_};
+ghost use lib.ListN.{length};
+ghost use Rattle.std.specs.Joined.{joined};
 ghost use Rattle.std.specs.Results.{Cases};
-ghost use Rattle.saving.specs.Saves.{saved};
+ghost use Rattle.records.specs.Records.{encode};
+ghost use Rattle.roll.specs.Slots.{slots};
+ghost use Rattle.saving.specs.Saves.{saved, Stored, Refused};
 ghost use Rattle.saving.specs.Takes.{Took};
+use crate::entries::Entry;
 use crate::entries::ObjectEntry;
 use crate::entries::RightsEntry;
 use crate::entries::UserEntry;
-use crate::entries::put_slots;
+use crate::entries::put_record;
 use crate::sinks::Counter;
 use crate::sinks::CounterSink;
 use crate::sinks::Sink;
@@ -27,6 +30,19 @@ impl NoRoom {
         ensures { λ r. ⌜ r ≡ 15 ⌝ }
     {
         15
+    }
+}
+
+/// The slots that are not empty, in ascending order.
+fn put_slots<S: Sink, T: Entry>(out: &mut S, xs: &[Option<T>])
+    requires { ⌜ length (now xs) ≤ 256 ⌝ }
+    ensures put { λ _. ⌜ Took (S·Sink .puts) (now (out .entry)) (joined encode (slots (T·Entry .written) 0 (now (xs .entry)))) (now (out .exit)) ⌝ }
+    ensures short { λ _. ⌜ length (joined encode (slots (T·Entry .written) 0 (now (xs .entry)))) ≤ T·Entry .most * length (now (xs .entry)) ⌝ }
+{
+    for i in 0..xs.len() {
+        if let Some(x) = &xs[i] {
+            put_record(out, &x.record(i as u8));
+        }
     }
 }
 
@@ -52,7 +68,7 @@ pub fn saved_len(t: &Tables) -> usize
 
 /// Writes the tables into the front of a buffer, and answers how many bytes they took. A buffer that is too short is left alone.
 pub fn save(t: &Tables, buf: &mut [u8]) -> Result<usize, NoRoom>
-    ensures { λ r. ⌜ Cases r (λ n. (n ≡ length (saved (now (t .entry)))) × (n ≤ length (now (buf .entry))) × (now (buf .exit) ≡ saved (now (t .entry)) ++ drop n (now (buf .entry)))) (λ _. (length (now (buf .entry)) < length (saved (now (t .entry)))) × (now (buf .exit) ≡ now (buf .entry))) ⌝ }
+    ensures { λ r. ⌜ Cases r (Stored (saved (now (t .entry))) (now (buf .entry)) (now (buf .exit))) (λ _. Refused (saved (now (t .entry))) (now (buf .entry)) (now (buf .exit))) ⌝ }
 {
     let n = saved_len(t);
     if buf.len() < n {

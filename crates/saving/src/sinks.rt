@@ -1,5 +1,4 @@
 //! What takes the bytes of a roll: one sink counts them, the other writes them.
-ghost use mathlib.Core.Path.{_≡_};
 ghost use mathlib.Core.List.{List};
 ghost use Prim.Native.Nat.{ℕ};
 ghost use Rattle.saving.specs.Takes.{Took};

@@ -1,9 +1,10 @@
 //! A guard is made, loaded and saved.
 ghost use mathlib.Core.Path.{_≡_};
+ghost use Rattle.std.specs.Results.{Cases};
 ghost use Rattle.std.specs.Vec.{made};
 ghost use Rattle.tables.specs.State.{blank};
-ghost use Rattle.saving.specs.Saves.{saved};
-ghost use Rattle.monitor.specs.Loads.{Tells, Loads, One-answer, Steady, Saves, Returns};
+ghost use Rattle.saving.specs.Saves.{saved, Stored, Refused};
+ghost use Rattle.monitor.specs.Loads.{Tells, Loads, One-answer, Steady, Returns};
 use super::Guard;
 use crate::faults::RollFault;
 use crate::faults::RollFromRecord;
@@ -68,7 +69,7 @@ impl<S: Scheme> Guard<S> {
     /// Writes the tables but for the subjects into the front of a buffer, and answers how many bytes they took. A buffer that is too short is
     /// left alone.
     pub fn save(&self, buf: &mut [u8]) -> Result<usize, NoRoom>
-        ensures saves { λ r. ⌜ Saves (now (self .entry) .tables) r (now (buf .entry)) (now (buf .exit)) ⌝ }
+        ensures saves { λ r. ⌜ Cases r (Stored (saved (now (self .entry) .tables)) (now (buf .entry)) (now (buf .exit))) (λ _. Refused (saved (now (self .entry) .tables)) (now (buf .entry)) (now (buf .exit))) ⌝ }
         ensures blank { λ r. ⌜ (now (self .entry) .tables ≡ blank → made r (λ n. n ≡ 0)) ⌝ }
         ensures back { λ r. ⌜ (Steady (S·Scheme .meaning (now (self .entry) .scheme)) (now (self .entry) .tables) → Returns (S·Scheme .meaning (now (self .entry) .scheme)) (now (self .entry) .tables) (now (buf .exit)) r) ⌝ }
     {

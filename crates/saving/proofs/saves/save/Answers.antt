@@ -15,4 +15,4 @@ returns c =
     let e : c .put-tables .last .out .bytes .now ≡ saved (c .args .t .now) ++ drop (c .saved-len-n .result) (c .args .buf .now) =
     w .bytes (omega (arith, n, c .if-buf-n .left)) ∙ ap (λ k. saved (c .args .t .now) ++ drop k (c .args .buf .now)) n in
     let same = w .held in
-    (c .saved-len-n .ensures .is, c .if-buf-n .left, search needs)
+    record { all = c .saved-len-n .ensures .is; fits = c .if-buf-n .left; there = search needs }

@@ -2,7 +2,7 @@ use Prim.Native.Nat.{_*_, _≤_}
 use lib.ListN.{length, take}
 use Rattle.saving.specs.Takes.{Took}
 use Rattle.saving.proofs.Walking.{slotBytes}
-use Rattle.saving.proofs.entries.put_slots.Given as given
+use Rattle.saving.proofs.saves.put_slots.Given as given
 
 abbrev pub Inv-loop-i : given.InvT-loop-i
 Inv-loop-i g l =

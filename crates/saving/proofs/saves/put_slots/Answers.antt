@@ -8,8 +8,8 @@ use Rattle.std.proofs.shelf.Lists.{take-all, getD-read}
 use Rattle.records.specs.Records.{encode}
 use Rattle.saving.proofs.Taking.{took-none, took-both, took-as}
 use Rattle.saving.proofs.Walking.{slotBytes, some-more, none-more}
-use Rattle.saving.proofs.entries.put_slots.Needs as need
-use Rattle.saving.proofs.entries.put_slots.Needs.{in-Some, in-rest}
+use Rattle.saving.proofs.saves.put_slots.Needs as need
+use Rattle.saving.proofs.saves.put_slots.Needs.{in-Some, in-rest}
 
 pub loop-i-holds : need.loop-i-holds
 loop-i-holds g c = (took-none (g .S·Sink .puts) (c .args .out .now), omega arith)
