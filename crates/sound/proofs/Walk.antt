@@ -1,14 +1,14 @@
 -- The walk up from an object over the unmixed containers above it. Assumes nothing.
-use mathlib.Core.Path.{_≡_, refl, sym, ap, subst, _∙_}
-use mathlib.Core.Bool.{Bool, true, false}
+use mathlib.Core.Path.{_≡_, sym, ap, subst, _∙_}
+use mathlib.Core.Bool.{Bool}
 use mathlib.Core.Logic.{_⊎_, inl, inr}
 use Prim.Native.Nat.{ℕ, suc, _≤_}
-use lib.ListN.{getD, length}
+use lib.ListN.{length}
 use Rattle.std.proofs.shelf.Tests.{cases-eq}
 use Rattle.std.specs.Orderings.{Decides}
 use Rattle.std.specs.declared.option.Option.{Option}
-use Rattle.std.specs.declared.option.Option.the-variants.{Some, None}
-use Rattle.std.specs.Options.{isSome, valueOr}
+use Rattle.std.specs.declared.option.Option.the-variants.{Some}
+use Rattle.std.specs.Options.{valueOr}
 use Rattle.labels.specs.Meaning.{Meaning}
 use Rattle.tables.specs.declared.types.Object.{Object}
 use Rattle.tables.specs.declared.types.Tables.{Tables}

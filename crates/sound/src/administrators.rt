@@ -5,7 +5,7 @@ use crate::ends::users_end;
 use tables::types::Tables;
 
 /// Is some user an administrator?
-pub fn administrator_exists(t: &Tables) -> bool
+pub(crate) fn administrator_exists(t: &Tables) -> bool
     ensures { λ r. ⌜ Decides r (Administered (now (t .entry))) ⌝ }
 {
     for u in 0..users_end(&t.users) {

@@ -68,7 +68,7 @@ fn objects_grouped(t: &Tables) -> bool
 }
 
 /// Do the groups that users and objects name exist?
-pub fn groups_exist(t: &Tables) -> bool
+pub(crate) fn groups_exist(t: &Tables) -> bool
     ensures { λ r. ⌜ Decides r (Grouped (now (t .entry))) ⌝ }
 {
     users_grouped(t) && objects_grouped(t)

@@ -86,7 +86,7 @@ fn objects_labelled<S: Scheme>(scheme: &S, t: &Tables) -> bool
 }
 
 /// Are all labels labels of the scheme, and does each floor flow to its top?
-pub fn labels_hold<S: Scheme>(scheme: &S, t: &Tables) -> bool
+pub(crate) fn labels_hold<S: Scheme>(scheme: &S, t: &Tables) -> bool
     ensures { λ r. ⌜ Decides r (Labelled (S·Scheme .meaning (now (scheme .entry))) (now (t .entry))) ⌝ }
 {
     users_labelled(scheme, t) && subjects_labelled(scheme, t) && objects_labelled(scheme, t)

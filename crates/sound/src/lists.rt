@@ -44,7 +44,7 @@ fn user_listed(t: &Tables, u: u8) -> bool
 }
 
 /// Do the allow lists name programs?
-pub fn lists_hold(t: &Tables) -> bool
+pub(crate) fn lists_hold(t: &Tables) -> bool
     ensures { λ r. ⌜ Decides r (Listed (now (t .entry))) ⌝ }
 {
     for u in 0..users_end(&t.users) {

@@ -19,7 +19,7 @@ fn is_mixed_right(t: &Tables, o: u8) -> bool
 }
 
 /// Are only containers mixed?
-pub fn only_containers_mixed(t: &Tables) -> bool
+pub(crate) fn only_containers_mixed(t: &Tables) -> bool
     ensures { λ r. ⌜ Decides r (MixedApart (now (t .entry))) ⌝ }
 {
     for o in 0..objects_end(&t.objects) {

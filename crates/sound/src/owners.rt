@@ -1,7 +1,6 @@
 //! Clause (d): owners, and users with rights on an object, exist.
 ghost use mathlib.Core.Path.{_≡_};
 ghost use mathlib.Core.Bool.{true};
-ghost use Prim.Native.Nat.{ℕ};
 ghost use Rattle.std.specs.Orderings.{Decides};
 ghost use Rattle.tables.specs.State.{hasUser, hasObject, object};
 ghost use Rattle.sound.specs.Sound.{HoldersThere, Owned};
@@ -33,7 +32,7 @@ fn is_owned(t: &Tables, o: u8) -> bool
 }
 
 /// Do owners, and users with rights on an object, exist?
-pub fn owners_exist(t: &Tables) -> bool
+pub(crate) fn owners_exist(t: &Tables) -> bool
     ensures { λ r. ⌜ Decides r (Owned (now (t .entry))) ⌝ }
 {
     for o in 0..objects_end(&t.objects) {

@@ -53,7 +53,7 @@ fn all_placed(t: &Tables) -> bool
 }
 
 /// Do the objects make a tree of containers under object 0?
-pub fn tree_stands(t: &Tables) -> bool
+pub(crate) fn tree_stands(t: &Tables) -> bool
     ensures { λ r. ⌜ Decides r (Rooted (now (t .entry))) ⌝ }
 {
     is_container(t, 0) && root_returns(t) && all_placed(t)
