@@ -1,0 +1,4 @@
+pub mod Each
+pub mod Naming
+pub mod Trees
+pub mod Saving
