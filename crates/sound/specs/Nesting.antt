@@ -6,7 +6,7 @@ use Rattle.labels.specs.Meaning.{Meaning}
 use Rattle.tables.specs.declared.types.Kind.the-variants.{Container}
 use Rattle.tables.specs.declared.types.User.{User}
 use Rattle.tables.specs.declared.types.Tables.{Tables}
-use Rattle.tables.specs.State.{object, hasObject, subject, hasSubject, user}
+use Rattle.tables.specs.State.{object, hasObject}
 use Rattle.tables.specs.Ways.{Under, Above}
 
 -- a is a container, and not a mixed one
@@ -36,7 +36,3 @@ Nested m t = (a x : ℕ) → Under t x a → Unmixed t a → Holds m t a (object
 -- l is in the range of user u: its floor flows to l, and l flows to its top
 abbrev pub InRange : Meaning → User → ℕ → Type 0
 InRange m u l = (m .flow (u .floor) l ≡ true) × (m .flow l (u .top) ≡ true)
-
--- each subject's label is in its user's range
-abbrev pub Ranged : Meaning → Tables → Type 0
-Ranged m t = (s : ℕ) → hasSubject t s ≡ true → InRange m (user t (subject t s .user)) (subject t s .label)

@@ -16,14 +16,14 @@ pub(crate) fn users_end(users: &[Option<User>; USERS]) -> u8
 }
 
 /// Past every subject's number.
-pub(crate) fn subjects_end(subjects: &[Option<Subject>; SUBJECTS]) -> u8
+pub fn subjects_end(subjects: &[Option<Subject>; SUBJECTS]) -> u8
     ensures { λ r. ⌜ r ≡ length (now (subjects .entry)) ⌝ }
 {
     SUBJECTS as u8
 }
 
 /// Past every object's number.
-pub(crate) fn objects_end(objects: &[Option<Object>; OBJECTS]) -> u8
+pub fn objects_end(objects: &[Option<Object>; OBJECTS]) -> u8
     ensures { λ r. ⌜ r ≡ length (now (objects .entry)) ⌝ }
 {
     OBJECTS as u8

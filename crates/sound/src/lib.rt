@@ -4,7 +4,7 @@
 
 mod administrators;
 pub mod clauses;
-mod ends;
+pub mod ends;
 mod groups;
 mod labelled;
 mod lists;

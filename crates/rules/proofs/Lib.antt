@@ -1,0 +1,4 @@
+pub mod Parties
+mod Creates
+mod Launches
+mod Raises

@@ -1,0 +1,6 @@
+use native.Mathlib.Omega.{arith}
+use Rattle.sound.proofs.Every.{slots-hold}
+use Rattle.rules.proofs.nests.is_idle.Needs as need
+
+pub returns : need.returns
+returns c = slots-hold (c .args .t .now .subjects) (c .loop-x .x) (omega arith) (c .loop-x .inv)
