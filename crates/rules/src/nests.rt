@@ -98,7 +98,7 @@ fn is_idle(t: &Tables, o: u8) -> bool
 }
 
 /// Can `o` be taken away: is it neither the root nor a parent, and does no subject run from it?
-pub(crate) fn is_unrigged(t: &Tables, o: u8) -> bool
+pub(crate) fn is_removable(t: &Tables, o: u8) -> bool
     ensures { λ r. ⌜ Decides r ((o ≡ 0 → ⊥) × Childless (now (t .entry)) o × Idle (now (t .entry)) o) ⌝ }
 {
     o != 0 && is_childless(t, o) && is_idle(t, o)

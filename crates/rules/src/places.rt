@@ -1,7 +1,7 @@
 //! The calls that make and take away objects.
 ghost use Rattle.calls.specs.Calls.{Answer};
 ghost use Rattle.calls.specs.Refusals.{answerNumber};
-use crate::nests::is_unrigged;
+use crate::nests::is_removable;
 use crate::nests::label_of;
 use calls::types::Call;
 use calls::types::Refusal;
@@ -76,7 +76,7 @@ pub(crate) fn delete<S: Scheme>(
     if !scheme.flows(s.label, label_of(t, o.parent)) {
         return Err(Refusal::WrongWay);
     }
-    if !is_unrigged(t, object) {
+    if !is_removable(t, object) {
         return Err(Refusal::StillRigged);
     }
     Ok(())
