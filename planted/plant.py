@@ -1,8 +1,8 @@
 #!/usr/bin/env python3
 """Plants one bug at a time and lets the prover judge it.   plant.py REPOSITORY [WORKERS]
 
-REPOSITORY is a checkout that was proved (its target/ makes it fast); it is copied for each worker and not changed. Each line of bugs.txt
-is put into its file alone, and the crate is checked by `rt dev`. Printed: refused or STILL PROVED, the crate and file, the change, and the
+REPOSITORY is a checkout that was proved; it is copied for each worker and not changed. Each line of bugs.txt
+is put into its file alone, and the crate is checked by `rt check`. Printed: refused or STILL PROVED, the crate and file, the change, and the
 first line in which the prover objects.
 """
 import os
@@ -33,7 +33,7 @@ def judge(repo, crate, file, old, new):
     with open(path, 'w', encoding='utf-8') as f:
         f.write(text.replace(old, new))
     try:
-        done = subprocess.run(['rt', 'dev', crate], cwd=repo, capture_output=True, text=True)
+        done = subprocess.run(['rt', 'check'], cwd=os.path.join(repo, 'crates', crate), capture_output=True, text=True)
     finally:
         with open(path, 'w', encoding='utf-8') as f:
             f.write(text)
@@ -51,7 +51,7 @@ def main():
     def worker():
         with tempfile.TemporaryDirectory(dir=os.path.dirname(os.path.abspath(source))) as folder:
             repo = os.path.join(folder, 'repo')
-            shutil.copytree(source, repo)
+            shutil.copytree(source, repo, ignore=shutil.ignore_patterns('out', '.git'))
             while True:
                 with lock:
                     if not work:

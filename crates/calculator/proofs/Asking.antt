@@ -1,5 +1,5 @@
 -- The words of a question, as a reader gives them one after another. Assumes nothing.
-use Rattle.std.proofs.Common.{◌≡◌, ℕ, zero, suc, ◌+◌, ◌<◌, ◌≤◌, ◌⊎◌, List, [], ◌∷◌, length, get_or, drop, Err, Result, sym, refl, ap, ◌∙◌, subst, inl, inr, arith, length-drop}
+use Rattle.std.proofs.Common.{◌≡◌, ℕ, zero, suc, List, [], ◌∷◌, length, get_or, drop, Err, Result, sym, refl, ap, ◌∙◌, subst, inl, inr, arith, length-drop}
 use Rattle.calculator.specs.declared.questions.Ask.{Ask}
 use Rattle.calculator.specs.declared.questions.Question.{Question}
 use Rattle.calculator.specs.declared.questions.Fault.{Fault}

@@ -1,4 +1,6 @@
 //! Questions about labels as lines of text, and the replies to them.
+#![tactic(auto)]
+
 mod questions;
 mod replies;
 

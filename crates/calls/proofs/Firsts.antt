@@ -1,10 +1,8 @@
 -- How an answer is found: what is asked is gone through in its order, until something is not fine. Assumes nothing.
-use Rattle.std.proofs.Common.{◌≡◌, ℕ, zero, suc, ◌<◌, ◌≤◌, Bool, true, ◌&&◌, leb, ◌⊎◌, List, [], ◌∷◌, is_some, Some, None, Option, unwrap_or, sym, refl, ap, subst, inl, inr, arith}
+use Rattle.std.proofs.Common.{◌≡◌, ℕ, zero, suc, ◌<◌, ◌≤◌, Bool, true, ◌&&◌, leb, List, [], ◌∷◌, sym, refl, subst, inl, inr, arith}
 use Rattle.std.proofs.lemmas.Bool.{and_parts, leb-true, cases_order}
 use Rattle.labels.specs.Meaning.{Meaning}
-use Rattle.tables.specs.declared.types.Tables.{Tables}
-use Rattle.calls.specs.declared.types.Call.{Call}
-use Rattle.calls.specs.Calls.{Ask, must, under, Fine, asks, AllFine, FineBelow, FineAt, Answer, OneAnswer}
+use Rattle.calls.specs.Calls.{Ask, must, under, asks, AllFine, FineBelow, FineAt, OneAnswer}
 
 -- nothing in the rest is asked under a number below w
 abbrev pub later : ℕ → List Ask → Bool

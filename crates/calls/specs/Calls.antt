@@ -1,5 +1,5 @@
 -- What each call asks, and in which order it is refused. Assumes nothing.
-use Rattle.std.specs.Prelude.{◌≡◌, ℕ, zero, suc, ◌<◌, ◌≤◌, Bool, true, false, ◌⊎◌, List, [], ◌∷◌, Some, ◌≢◌}
+use Rattle.std.specs.Prelude.{◌≡◌, ℕ, zero, suc, ◌<◌, ◌≤◌, true, false, ◌⊎◌, List, [], ◌∷◌, Some, ◌≢◌}
 use Rattle.labels.specs.Meaning.{Meaning}
 use Rattle.tables.specs.declared.sets.Right.{Right}
 use Rattle.tables.specs.declared.sets.Right.TheVariants.{Read as ToRead, Write as ToWrite, Create as ToCreate, Delete as ToDelete, ChangeRights, Execute, WriteAttributes}

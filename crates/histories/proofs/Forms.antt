@@ -1,8 +1,8 @@
 -- Tables that a roll can say stay so through every granted call. Assumes nothing.
-use Rattle.std.proofs.Common.{◌≡◌, ℕ, zero, suc, ◌^◌, ◌<◌, ◌≤◌, Bool, true, false, cond, ltb, List, [], ◌∷◌, map, length, get_or, set, replicate, is_some, Some, None, Option, unwrap_or, sym, refl, ap, ◌∙◌, subst, inl, inr, arith}
-use lib.Bits.{bit_or, bit_xor}
+use Rattle.std.proofs.Common.{◌≡◌, ℕ, zero, suc, ◌^◌, ◌<◌, ◌≤◌, Bool, true, false, ltb, List, [], ◌∷◌, map, length, get_or, set, replicate, is_some, Some, None, Option, unwrap_or, sym, refl, ap, ◌∙◌, subst, inl, inr, arith}
+use lib.Bits.{bit_xor}
 use Rattle.std.proofs.lemmas.Nat.{or_lt, xor_lt, pow_below}
-use Rattle.std.proofs.lemmas.List.{length-set, length-map, map-set}
+use Rattle.std.proofs.lemmas.List.{length-set, map-set}
 use Rattle.std.proofs.lemmas.Bool.{cases_Bool, cond-true, cond-false, ltb-true, false≢true, both_ways, cases_lt}
 use Rattle.std.specs.List.{AllByRecursion}
 use Rattle.std.specs.Option.{option_map}
@@ -18,7 +18,7 @@ use Rattle.tables.specs.declared.types.Tables.{Tables}
 use Rattle.tables.specs.State.{subject, has_user, has_object, no_rights}
 use Rattle.tables.specs.Changes.{moved, relabelled, remixed, regranted, listing, unlisting}
 use Rattle.tables.proofs.Puts.{within, at_put, at_map}
-use Rattle.records.specs.Records.{InForm, ObjectForm}
+use Rattle.records.specs.Records.{InForm}
 use Rattle.records.specs.Rights.{RightsForm}
 use Rattle.roll.specs.Formed.{Sized, Formed}
 use Rattle.roll.specs.Slots.{kind_of, number_of_kind, user_record, group_record, object_record, rights_byte}

@@ -1,5 +1,5 @@
 -- A list of calls has one run from the same tables. Assumes nothing.
-use Rattle.std.proofs.Common.{◌≡◌, ℕ, zero, suc, ◌<◌, ◌≤◌, List, length, get_or, sym, refl, ap, ◌∙◌, subst, arith, ext_get_or}
+use Rattle.std.proofs.Common.{◌≡◌, ℕ, zero, suc, ◌<◌, ◌≤◌, List, length, sym, ap, ◌∙◌, subst, arith, ext_get_or}
 use Rattle.labels.specs.Meaning.{Meaning}
 use Rattle.tables.specs.declared.types.Tables.{Tables}
 use Rattle.calls.specs.declared.types.Call.{Call}

@@ -1,6 +1,6 @@
 -- A guard's tables are steady when they are blank or loaded, and stay so from call to call. Assumes nothing.
-use Rattle.std.proofs.Common.{◌≡◌, ℕ, zero, suc, true, false, ◌⊎◌, List, [], ◌∷◌, get_or, replicate, is_some, None, Ok, Option, sym, refl, ap, ◌∙◌, subst, inl, inr}
-use Rattle.std.proofs.lemmas.Bool.{false≢true, both_ways}
+use Rattle.std.proofs.Common.{◌≡◌, ℕ, zero, suc, false, List, [], ◌∷◌, get_or, replicate, is_some, None, Ok, Option, sym, refl, ap, ◌∙◌, subst, inl, inr}
+use Rattle.std.proofs.lemmas.Bool.{both_ways}
 use Rattle.labels.specs.Meaning.{Meaning, Lawful}
 use Rattle.tables.specs.declared.types.Subject.{Subject}
 use Rattle.tables.specs.declared.types.Tables.{Tables}

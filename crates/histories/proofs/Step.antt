@@ -10,7 +10,7 @@ use Rattle.tables.specs.declared.types.Object.{Object}
 use Rattle.tables.specs.declared.types.Subject.{Subject}
 use Rattle.tables.specs.declared.types.Tables.{Tables}
 use Rattle.roll.specs.Formed.{Sized}
-use Rattle.tables.specs.State.{user, subject, object, has_subject, has_object, blank_subject, blank_object}
+use Rattle.tables.specs.State.{subject, object, has_subject, has_object, blank_subject, blank_object}
 use Rattle.tables.specs.Changes.{put_user, put_subject, put_object, unlisting}
 use Rattle.tables.proofs.Puts.{at_put, gone}
 use Rattle.calls.specs.declared.types.Call.{Call}

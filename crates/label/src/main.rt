@@ -1,4 +1,6 @@
 //! The crew's label calculator: it answers questions about labels, a line each, from standard input.
+#![tactic(auto)]
+
 use calculator::reply_all;
 use std::io::Read;
 

@@ -1,9 +1,9 @@
 -- The answers of the two labels in use, for every number. Assumes nothing.
-use Rattle.std.proofs.Common.{◌≡◌, ℕ, ◌+◌, ◌*◌, ◌/◌, ◌%◌, ◌^◌, ◌<◌, ◌≤◌, Bool, true, ◌&&◌, ltb, leb, Decides, sym, refl, ap, ◌∙◌, subst, subst₂, arith}
+use Rattle.std.proofs.Common.{◌≡◌, ℕ, ◌/◌, ◌%◌, ◌^◌, ◌<◌, ◌≤◌, Bool, leb, Decides, sym, subst, subst₂, arith}
 use Rattle.std.proofs.lemmas.Bool.{leb-true, le-leb}
 use Rattle.std.proofs.lemmas.Bool.Decides.{Decides-and, Decides-like, Decides-ltb}
 use Rattle.labels.specs.Meaning.{Meaning}
-use Rattle.labels.specs.Schemes.{level, categories, turned, pair, both, Each}
+use Rattle.labels.specs.Schemes.{level, categories, turned, pair, both}
 use Rattle.labels.specs.House.{house, secrecy, secrecy_categories, trust, trust_categories, Labels, Flows, Holds, AnswersByParts}
 use Rattle.labels.specs.Old.{old, AnswersByIntegrity}
 use Rattle.labels.proofs.Each.{three, by_category}

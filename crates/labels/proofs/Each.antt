@@ -1,7 +1,7 @@
 -- The test on two sets, category by category. Assumes nothing.
-use Rattle.std.proofs.Common.{◌≡◌, ℕ, zero, suc, ◌+◌, ◌*◌, ◌/◌, ◌%◌, ◌^◌, ◌<◌, ◌≤◌, min, Bool, true, ◌&&◌, Decides, sym, refl, ap, ◌∙◌, subst, add_comm, div-one, arith, shr-shr}
+use Rattle.std.proofs.Common.{◌≡◌, ℕ, ◌+◌, ◌/◌, ◌%◌, ◌^◌, min, Bool, ◌&&◌, Decides, sym, refl, ap, ◌∙◌, div-one, arith, shr-shr}
 use lib.Arith.{bin_ind}
-use lib.Bits.{bit_and, and_shr, and_mod, and_step}
+use lib.Bits.{bit_and, and_shr, and_step}
 use Rattle.std.proofs.lemmas.Bool.{eqb-true, eq-eqb}
 use Rattle.std.proofs.lemmas.Bool.Decides.{Decides-and, Decides-like, Decides-ltb}
 use Rattle.labels.specs.Schemes.{within, categories, Has, Each, ByCategory}

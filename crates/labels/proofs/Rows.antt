@@ -1,6 +1,6 @@
 -- The marked rows, by one test that antt computes over the whole list. Assumes nothing.
 use Rattle.std.proofs.Common.{◌≡◌, Bool, true, false, ◌&&◌, List, [], ◌∷◌, refl}
-use Rattle.std.specs.List.{AllByRecursion as All}
+use Rattle.std.specs.List.{AllByRecursion}
 use Rattle.std.proofs.lemmas.Bool.{and_parts}
 use Rattle.labels.specs.House.{house}
 use Rattle.labels.specs.Old.{old}
@@ -11,7 +11,7 @@ every test [] = true
 every test (x ∷ xs) = test x && every test xs
 
 -- what passes a test that tells enough stands, row by row
-pub all_by_test : {X : Type 0} (test : X → Bool) (Stands : X → Type 0) → ((x : X) → test x ≡ true → Stands x) → (xs : List X) → every test xs ≡ true → All Stands xs
+pub all_by_test : {X : Type 0} (test : X → Bool) (Stands : X → Type 0) → ((x : X) → test x ≡ true → Stands x) → (xs : List X) → every test xs ≡ true → AllByRecursion Stands xs
 all_by_test test Stands shown [] e = tt
 all_by_test test Stands shown (x ∷ xs) e =
     let parts = and_parts (test x) (every test xs) e in

@@ -1,5 +1,5 @@
 -- The house label: secrecy and trust, each a level and a set of categories. Assumes nothing.
-use Rattle.std.specs.Prelude.{◌≡◌, ℕ, ◌+◌, ◌*◌, ◌/◌, ◌%◌, ◌^◌, ◌<◌, ◌≤◌, Decides}
+use Rattle.std.specs.Prelude.{ℕ, ◌+◌, ◌*◌, ◌/◌, ◌%◌, ◌^◌, ◌<◌, ◌≤◌, Decides}
 use Rattle.labels.specs.Meaning.{Meaning}
 use Rattle.labels.specs.Schemes.{level, categories, turned, pair, Each}
 

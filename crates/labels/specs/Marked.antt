@@ -1,6 +1,6 @@
 -- Marked examples: each row is a question with the answer that it must have. Assumes nothing.
 use Rattle.std.specs.Prelude.{◌≡◌, ℕ, Bool, true, false, List, [], ◌∷◌, ◌==◌}
-use Rattle.std.specs.List.{AllByRecursion as All}
+use Rattle.std.specs.List.{AllByRecursion}
 use Rattle.labels.specs.Meaning.{Meaning}
 use Rattle.labels.specs.House.{house, numbered}
 use Rattle.labels.specs.Old.{old}
@@ -54,4 +54,4 @@ marked =
 
 -- every row has the answer that the definitions give
 abbrev pub MarkedStand : Type 0
-MarkedStand = All (λ (r : Row). answer r.asked ≡ r.told) marked
+MarkedStand = AllByRecursion (λ (r : Row). answer r.asked ≡ r.told) marked

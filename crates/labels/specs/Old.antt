@@ -1,5 +1,5 @@
 -- The old integrity label: five levels, from untrusted 0 to system 4. Assumes nothing.
-use Rattle.std.specs.Prelude.{◌≡◌, ℕ, ◌≤◌, Decides}
+use Rattle.std.specs.Prelude.{ℕ, ◌≤◌, Decides}
 use Rattle.labels.specs.Meaning.{Meaning}
 use Rattle.labels.specs.Schemes.{level, turned}
 

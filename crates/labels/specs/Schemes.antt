@@ -1,5 +1,5 @@
 -- The meanings of the four schemes. Assumes nothing.
-use Rattle.std.specs.Prelude.{◌≡◌, ℕ, ◌/◌, ◌%◌, ◌^◌, ◌<◌, Bool, true, ◌&&◌, ltb, leb, Decides, ◌==◌, bit_and, nat_le, nat_lt}
+use Rattle.std.specs.Prelude.{◌≡◌, ℕ, ◌/◌, ◌%◌, ◌^◌, ◌<◌, Bool, ◌&&◌, ltb, leb, Decides, ◌==◌, bit_and, nat_le, nat_lt}
 use Rattle.labels.specs.Meaning.{Meaning}
 
 -- a relation asked of labels alone: of any other number it answers no

@@ -1,4 +1,6 @@
 //! Label schemes: which numbers are labels, which label flows to which, and which holds which.
+#![tactic(auto)]
+
 mod houses;
 mod levels;
 mod marked;

@@ -1,5 +1,5 @@
 -- The texts of the numbers below n, one more at a time.
-use Rattle.std.proofs.Common.{◌≡◌, ℕ, zero, suc, ◌+◌, List, [], ◌∷◌, ◌++◌, Some, None, Option, sym, refl, ap, ◌∙◌, subst, append_assoc, append-nil, add-one}
+use Rattle.std.proofs.Common.{◌≡◌, ℕ, ◌+◌, List, [], ◌++◌, Some, None, Option, sym, refl, ap, ◌∙◌, append_assoc, append-nil, add-one}
 use Rattle.listing.specs.Listed.{each, told}
 
 pub each_none : (f : ℕ → List ℕ) → each f 0 ≡ []

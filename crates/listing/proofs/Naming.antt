@@ -1,5 +1,5 @@
 -- Words behind a text.
-use Rattle.std.proofs.Common.{◌≡◌, ℕ, suc, Bool, true, false, cond, List, [], ◌∷◌, ◌++◌, length, codes, decimal, sym, refl, ap, ◌∙◌, append_assoc, arith, ne_eqb}
+use Rattle.std.proofs.Common.{◌≡◌, ℕ, Bool, true, false, cond, List, [], ◌∷◌, ◌++◌, length, codes, decimal, sym, refl, ap, ◌∙◌, append_assoc, arith, ne_eqb}
 use Rattle.tables.specs.Sets.{has}
 use Rattle.listing.specs.Listed.{each, member_text, members_text, comma, or_none}
 

@@ -1,5 +1,5 @@
 -- Bytes that were saved into a buffer of just their length.
-use Rattle.std.proofs.Common.{◌≡◌, ℕ, ◌≤◌, List, [], ◌++◌, length, take, drop, sym, refl, ap, ◌∙◌, append-nil, arith, drop_of_length-le, take_all}
+use Rattle.std.proofs.Common.{◌≡◌, ℕ, ◌≤◌, List, ◌++◌, length, take, drop, ap, ◌∙◌, append-nil, arith, drop_of_length-le, take_all}
 
 -- the whole buffer is what was saved
 pub whole : (s buf after : List ℕ) (n : ℕ) → length buf ≤ n → after ≡ s ++ drop n buf → after ≡ s

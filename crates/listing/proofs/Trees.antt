@@ -1,5 +1,5 @@
 -- An object of the tree, and those under it.
-use Rattle.std.proofs.Common.{◌≡◌, ℕ, zero, suc, ◌+◌, ◌-◌, ◌<◌, ◌≤◌, Bool, true, false, cond, eqb, List, [], ◌++◌, Some, None, Option, sym, refl, ap, ◌∙◌, subst, arith, ne_eqb}
+use Rattle.std.proofs.Common.{◌≡◌, ℕ, suc, ◌+◌, ◌-◌, ◌<◌, ◌≤◌, Bool, cond, List, [], ◌++◌, Some, None, sym, ap, ◌∙◌, arith, ne_eqb}
 use Rattle.tables.specs.declared.types.Object.{Object}
 use Rattle.tables.specs.declared.types.Tables.{Tables}
 use Rattle.tables.specs.State.{object_at}

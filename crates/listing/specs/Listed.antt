@@ -1,5 +1,5 @@
 -- What is printed of the tables: a line for each entry. Assumes nothing.
-use Rattle.std.specs.Prelude.{ℕ, zero, suc, ◌+◌, Bool, cond, List, [], ◌∷◌, ◌++◌, Some, None, codes, decimal, Option, ◌==◌, slice_index_or}
+use Rattle.std.specs.Prelude.{ℕ, zero, suc, ◌+◌, cond, List, [], ◌∷◌, ◌++◌, Some, None, codes, decimal, Option, ◌==◌, slice_index_or}
 use Rattle.labels.specs.declared.houses.Parts.{Parts}
 use Rattle.labels.specs.House.{secrecy, secrecy_categories, trust, trust_categories}
 use Rattle.notation.specs.Notation.{notation}

@@ -1,4 +1,6 @@
 //! A roll in words: what it says, or why it is refused.
+#![tactic(auto)]
+
 mod lines;
 mod refusals;
 mod reports;

@@ -1,5 +1,5 @@
 -- A roll has one answer, and what it left is saved as the roll. Assumes nothing.
-use Rattle.std.proofs.Common.{◌≡◌, ℕ, zero, suc, ◌<◌, ◌≤◌, true, ◌⊎◌, List, [], ◌++◌, length, get_or, take, drop, replicate, is_some, IsErrAnd, IfOk, None, Ok, Err, Option, Result, sym, refl, ap, ◌∙◌, subst, inl, inr, arith, MatchResult}
+use Rattle.std.proofs.Common.{◌≡◌, ℕ, zero, suc, true, List, ◌++◌, length, get_or, take, drop, replicate, is_some, IsErrAnd, IfOk, None, Ok, Err, Option, Result, sym, refl, ap, ◌∙◌, subst, inl, inr, arith, MatchResult}
 use Rattle.std.proofs.lemmas.List.{take_at}
 use Rattle.std.proofs.lemmas.Result.{err_from_is_err_and}
 use Rattle.std.proofs.lemmas.Bool.{false≢true}
@@ -11,12 +11,11 @@ use Rattle.tables.specs.declared.types.Tables.{Tables}
 use Rattle.records.specs.Records.{encode}
 use Rattle.records.specs.declared.forms.RecordFault.{RecordFault}
 use Rattle.sound.specs.Sound.{Sound, FirstFailing}
-use Rattle.sound.specs.declared.clauses.Clause.{Clause}
 use Rattle.sound.specs.declared.clauses.Clause.TheVariants.{Groups, Labels, Tree, Owners, Lists, Administrator, Nesting, Mixed}
 use Rattle.sound.proofs.Firsts.{first_unique, first_unsound}
 use Rattle.roll.specs.Formed.{Formed, alone}
 use Rattle.roll.specs.Slots.{records_of}
-use Rattle.roll.specs.Rolls.{Says, tables_from}
+use Rattle.roll.specs.Rolls.{Says}
 use Rattle.roll.proofs.Sure.{sure}
 use Rattle.roll.proofs.Trips.{taken_saved, saved_taken, saved_roll}
 use Rattle.saving.specs.declared.saves.NoRoom.{NoRoom}

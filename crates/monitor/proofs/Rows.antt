@@ -1,12 +1,11 @@
 -- The marked examples, by one test that antt computes over the whole list. Assumes nothing.
-use Rattle.std.proofs.Common.{◌≡◌, ℕ, zero, suc, ◌+◌, ◌^◌, ◌<◌, ◌≤◌, Bool, true, false, ◌&&◌, ◌||◌, eqb, ltb, leb, ◌⊎◌, List, [], ◌∷◌, ◌++◌, length, get_or, drop, replicate, is_some, None, Ok, Err, Decides, Option, sym, refl, ap, ◌∙◌, subst, inl, inr, arith}
-use Rattle.std.specs.List.{flat_map, AllByRecursion, AllByRecursion as All}
+use Rattle.std.proofs.Common.{◌≡◌, ℕ, zero, suc, ◌^◌, ◌<◌, Bool, true, false, ◌&&◌, eqb, ltb, leb, List, [], ◌∷◌, ◌++◌, length, get_or, drop, replicate, is_some, None, Err, Option, refl, inr, arith}
+use Rattle.std.specs.List.{flat_map, AllByRecursion}
 use Rattle.std.specs.Str.{bytes_eq}
 use Rattle.std.proofs.lemmas.Slice.Eq.{bytes_eq-Decides}
 use Rattle.std.proofs.lemmas.Bool.{and_parts, ltb-true, leb-true, eqb-true, false≢true}
 use Rattle.labels.specs.House.{house}
 use Rattle.labels.specs.Old.{old}
-use Rattle.labels.specs.Marked.{answer}
 use Rattle.labels.proofs.Rows.{every, all_by_test, right, right_stands}
 use Rattle.tables.specs.State.{blank}
 use Rattle.tables.specs.declared.types.Subject.{Subject}
@@ -19,11 +18,10 @@ use Rattle.records.specs.declared.forms.Record.{Record}
 use Rattle.records.specs.declared.forms.Record.TheVariants as record_of
 use Rattle.records.specs.declared.forms.RecordFault.TheVariants as of_record
 use Rattle.records.specs.Records.{encode, InForm, table_of, maps_of, tail_size, Cut}
-use Rattle.roll.specs.Rolls.{rank_of, Rising, Roll, Says}
-use Rattle.monitor.specs.declared.faults.RollFault.{RollFault}
+use Rattle.roll.specs.Rolls.{rank_of, Rising, Says}
 use Rattle.monitor.specs.declared.faults.RollFault.TheVariants as of_roll
 use Rattle.monitor.specs.Loads.{Tells}
-use Rattle.monitor.specs.Marked.{Example, labelled, refused, Stands, sample, marked, MarkedStand}
+use Rattle.monitor.specs.Marked.{Example, labelled, refused, Stands, marked, MarkedStand}
 
 -- a record is in form
 abbrev all_below : ℕ → List ℕ → Bool

@@ -6,7 +6,6 @@ use Rattle.tables.specs.declared.types.Tables.{Tables}
 use Rattle.sound.specs.Sound.{Sound, FirstFailing}
 use Rattle.roll.specs.Formed.{Formed, alone}
 use Rattle.roll.specs.Rolls.{Says}
-use Rattle.saving.specs.Saves.{saved}
 use Rattle.saving.specs.declared.saves.NoRoom.{NoRoom}
 use Rattle.monitor.specs.declared.faults.RollFault.{RollFault}
 use Rattle.monitor.specs.declared.faults.RollFault.TheVariants as of_roll

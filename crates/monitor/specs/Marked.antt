@@ -1,6 +1,6 @@
 -- The marked examples of labels and of rolls: one list. Assumes nothing.
 use Rattle.std.specs.Prelude.{◌≡◌, ℕ, List, [], ◌∷◌, ◌++◌, map, take, Err}
-use Rattle.std.specs.List.{AllByRecursion as All}
+use Rattle.std.specs.List.{AllByRecursion}
 use Rattle.labels.specs.House.{house}
 use Rattle.labels.specs.Marked.{Row, answer}
 use Rattle.labels.specs.Marked as labels
@@ -37,4 +37,4 @@ marked =
     ∷ [])
 
 abbrev pub MarkedStand : Type 0
-MarkedStand = All Stands marked
+MarkedStand = AllByRecursion Stands marked

@@ -1,7 +1,7 @@
 //! The guard: a label scheme over plain tables.
 use tables::types::Tables;
 
-pub mod calls;
+pub mod decides;
 pub mod rolls;
 
 #[derive(Drop)]

@@ -1,4 +1,6 @@
 //! The reference monitor.
+#![tactic(auto)]
+
 mod faults;
 mod guards;
 mod marked;

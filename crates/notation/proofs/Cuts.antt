@@ -1,5 +1,5 @@
 -- Where a text is cut. Assumes nothing.
-use Rattle.std.proofs.Common.{◌≡◌, ℕ, zero, suc, ◌+◌, ◌-◌, ◌^◌, ◌<◌, ◌≤◌, Bool, true, false, cond, not, eqb, List, [], ◌∷◌, ◌++◌, length, get_or, take, drop, is_some, Some, None, decimal, Option, sym, refl, ap, ◌∙◌, subst, ap₂, append_assoc, add-one, arith, length-drop, take-append-drop, length-take, take_all, drop-cons, get_or-take, Bor, MatchOption}
+use Rattle.std.proofs.Common.{◌≡◌, ℕ, zero, suc, ◌+◌, ◌-◌, ◌<◌, Bool, true, false, cond, not, eqb, List, [], ◌∷◌, ◌++◌, length, get_or, take, drop, is_some, Some, None, decimal, Option, sym, refl, ◌∙◌, subst, ap₂, append_assoc, add-one, arith, length-drop, take-append-drop, length-take, take_all, drop-cons, get_or-take, Bor, MatchOption}
 use Rattle.std.proofs.lemmas.Str.Pattern.{IsSplitOnceResult, split_after, split_parts}
 use Rattle.std.proofs.lemmas.Option.{MatchOption-at_some, MatchOption-at_none}
 use Rattle.std.proofs.lemmas.Bool.{eq-eqb, ne_eqb}

@@ -1,5 +1,5 @@
 -- How labels are written. Assumes nothing.
-use Rattle.std.specs.Prelude.{◌≡◌, ℕ, ◌^◌, ◌<◌, ◌⊎◌, List, [], ◌∷◌, ◌++◌, codes, decimal}
+use Rattle.std.specs.Prelude.{◌≡◌, ℕ, ◌^◌, ◌<◌, ◌⊎◌, List, ◌∷◌, ◌++◌, codes, decimal}
 use Rattle.labels.specs.declared.houses.Parts.{Parts}
 use Rattle.labels.specs.House.{numbered}
 use Rattle.labels.specs.Meaning.{Meaning}

@@ -1,4 +1,6 @@
 //! The crew's notation for labels.
+#![tactic(auto)]
+
 mod numbers;
 mod schemes;
 mod texts;

@@ -1,5 +1,7 @@
 //! The guard at the old label: it loads the file `roll` of the working directory, answers the calls from standard input one after another, and prints a
 //! line for each.
+#![tactic(auto)]
+
 use std::io::Read;
 use std::{fs, io};
 use transcript::old_transcript;

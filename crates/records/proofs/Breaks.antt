@@ -1,8 +1,8 @@
 -- Fields that end too early. Assumes nothing.
 use Rattle.std.proofs.Common.{◌≡◌, ℕ, ◌<◌, cond, length, IsErrAnd, Ok, Err, Result, sym, ◌∙◌, subst, arith, MatchResult}
-use Rattle.bytes.specs.declared.cursors.Cursor.{Cursor}
-use Rattle.bytes.specs.declared.cursors.CursorFault.{CursorFault}
-use Rattle.bytes.specs.Bytes.{left, Field, Short}
+use Rattle.byte_cursor.specs.declared.cursors.Cursor.{Cursor}
+use Rattle.byte_cursor.specs.declared.cursors.CursorFault.{CursorFault}
+use Rattle.byte_cursor.specs.Bytes.{left, Field, Short}
 use Rattle.records.specs.declared.forms.UserRecord.{UserRecord}
 use Rattle.records.specs.declared.forms.ObjectRecord.{ObjectRecord}
 use Rattle.records.specs.declared.forms.RecordFault.{RecordFault}

@@ -1,11 +1,11 @@
 -- Fields that are there or not: one by one, and one after another.
-use Rattle.std.proofs.Common.{◌≡◌, ℕ, zero, suc, ◌+◌, ◌-◌, ◌*◌, ◌/◌, ◌%◌, ◌^◌, ◌<◌, ◌≤◌, Bool, true, false, cond, not, eqb, List, [], ◌∷◌, ◌++◌, length, drop, sym, refl, ap, ◌∙◌, subst, append_assoc, pow-suc, arith, length-append, eq-eqb}
+use Rattle.std.proofs.Common.{◌≡◌, ℕ, zero, suc, ◌+◌, ◌*◌, ◌/◌, ◌%◌, ◌^◌, ◌<◌, ◌≤◌, Bool, true, false, cond, not, eqb, List, [], ◌++◌, length, sym, refl, ap, ◌∙◌, subst, append_assoc, pow-suc, arith, length-append, eq-eqb}
 use lib.Bits.{bit_and}
 use Rattle.std.proofs.lemmas.Bool.{ne_eqb, not-false, eqb-true}
 use Rattle.std.proofs.lemmas.Nat.{div_below, div-mul-add}
-use Rattle.bytes.specs.declared.cursors.Cursor.{Cursor}
-use Rattle.bytes.specs.Bytes.{le, field_if, left, Took, Field}
-use Rattle.records.specs.Records.{bit_of, field, has}
+use Rattle.byte_cursor.specs.declared.cursors.Cursor.{Cursor}
+use Rattle.byte_cursor.specs.Bytes.{le, field_if, left, Took, Field}
+use Rattle.records.specs.Records.{field, has}
 
 pub length_le : (n v : ℕ) → length (le n v) ≡ n
 length_le zero v = refl

@@ -1,6 +1,6 @@
 -- A record's head, and what follows it.
-use Rattle.std.proofs.Common.{◌≡◌, ℕ, zero, suc, ◌+◌, ◌-◌, ◌*◌, ◌/◌, ◌%◌, ◌^◌, ◌<◌, ◌≤◌, Bool, true, false, cond, not, eqb, ◌⊎◌, List, [], ◌∷◌, ◌++◌, length, get_or, drop, sym, refl, ap, ◌∙◌, subst, inl, inr, ⊎_elim, arith}
-use Rattle.bytes.specs.declared.cursors.Cursor.{Cursor}
+use Rattle.std.proofs.Common.{◌≡◌, ℕ, zero, suc, ◌+◌, ◌<◌, ◌≤◌, Bool, true, false, cond, eqb, List, [], ◌∷◌, ◌++◌, length, get_or, drop, sym, refl, ap, ◌∙◌, subst, inr, ⊎_elim, arith}
+use Rattle.byte_cursor.specs.declared.cursors.Cursor.{Cursor}
 use Rattle.records.specs.declared.forms.UserRecord.{UserRecord}
 use Rattle.records.specs.declared.forms.GroupRecord.{GroupRecord}
 use Rattle.records.specs.declared.forms.ObjectRecord.{ObjectRecord}
@@ -8,10 +8,10 @@ use Rattle.records.specs.declared.forms.Record.{Record}
 use Rattle.records.specs.declared.forms.Record.TheVariants as record_of
 use Rattle.records.specs.declared.forms.RecordFault.{RecordFault}
 use Rattle.records.specs.declared.forms.RecordFault.TheVariants.{Bytes, Form, Order}
-use Rattle.bytes.specs.Bytes.{left, Took}
+use Rattle.byte_cursor.specs.Bytes.{left, Took}
 use Rattle.records.specs.Rights.{marks_number}
-use Rattle.records.specs.Records.{Layout, users, groups, objects, Taken, Failed, encode, InForm, table_of, maps_of, tail_size, Known, Cut, Faulty}
-use Rattle.records.proofs.Fields.{took_more, bit_parts}
+use Rattle.records.specs.Records.{Layout, users, groups, objects, Taken, Failed, encode, InForm, table_of, maps_of, tail_size, Known, Faulty}
+use Rattle.records.proofs.Fields.{took_more}
 
 three : (h : List ℕ) → length h ≡ 3 → h ≡ get_or h 0 0 ∷ get_or h 1 0 ∷ get_or h 2 0 ∷ []
 three [] e = absurd (omega arith)

@@ -1,11 +1,11 @@
 -- The two bytes of the map in front of the rights.
-use Rattle.std.proofs.Common.{◌≡◌, ℕ, zero, suc, ◌+◌, ◌-◌, ◌*◌, ◌/◌, ◌%◌, ◌^◌, ◌<◌, ◌≤◌, Bool, true, false, cond, not, eqb, List, [], ◌∷◌, ◌++◌, length, get_or, take, drop, Some, None, Option, sym, refl, ap, ◌∙◌, subst, pow-suc, arith, pow_mono}
+use Rattle.std.proofs.Common.{◌≡◌, ℕ, suc, ◌+◌, ◌-◌, ◌*◌, ◌/◌, ◌%◌, ◌^◌, ◌<◌, ◌≤◌, Bool, true, false, cond, not, eqb, List, [], ◌∷◌, ◌++◌, length, get_or, drop, Some, None, Option, sym, refl, ap, ◌∙◌, subst, pow-suc, arith, pow_mono}
 use lib.Count.{ones, ones_step}
 use Rattle.std.proofs.lemmas.List.{drop_more}
 use Rattle.std.specs.Option as options
 use Rattle.std.proofs.lemmas.Bool.{eqb-true, eqb-false, ne_eqb}
-use Rattle.bytes.specs.Bytes.{le}
-use Rattle.records.specs.Rights.{rights_size, marks_over, marks_number, bytes_of, RightsForm, rights_body, Marked}
+use Rattle.byte_cursor.specs.Bytes.{le}
+use Rattle.records.specs.Rights.{rights_size, marks_number, bytes_of, RightsForm, rights_body, Marked}
 
 bit_le : (z : Bool) → cond z 0 1 ≤ 1
 bit_le true = omega arith

@@ -1,11 +1,11 @@
 -- The fields of an object.
-use Rattle.std.proofs.Common.{◌≡◌, ℕ, ◌+◌, ◌-◌, ◌*◌, ◌/◌, ◌%◌, ◌^◌, ◌<◌, ◌≤◌, Bool, true, false, cond, not, eqb, ◌⊎◌, List, [], ◌∷◌, ◌++◌, length, get_or, take, drop, sym, refl, ap, ◌∙◌, subst, ⊎_elim, append_assoc, arith, length-append}
-use lib.Bits.{bit_and, and_high}
+use Rattle.std.proofs.Common.{◌≡◌, ℕ, ◌+◌, ◌*◌, ◌<◌, ◌≤◌, Bool, true, false, cond, not, eqb, ◌⊎◌, List, ◌++◌, length, take, drop, sym, refl, ap, ◌∙◌, subst, ⊎_elim, append_assoc, arith, length-append}
+use lib.Bits.{and_high}
 use Rattle.std.proofs.lemmas.List.{drop-drop, take_at, drop_at}
-use Rattle.bytes.specs.declared.cursors.Cursor.{Cursor}
+use Rattle.byte_cursor.specs.declared.cursors.Cursor.{Cursor}
 use Rattle.records.specs.declared.forms.ObjectRecord.{ObjectRecord}
 use Rattle.records.specs.declared.forms.RecordFault.TheVariants.{Form}
-use Rattle.bytes.specs.Bytes.{left, Took, Field, field_if}
+use Rattle.byte_cursor.specs.Bytes.{left, Took, Field, field_if}
 use Rattle.records.specs.Records.{bit_of, field, has, fixed, objects, ObjectForm, Taken, NoneThere, Failed}
 use Rattle.records.specs.Rights.{rights_size, marks_number, RightsForm, rights_body}
 use Rattle.records.proofs.Fields.{bit_tells, bit_at, bit_parts, took_more, field_took, step, field_length, length_field_if}

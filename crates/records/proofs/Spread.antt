@@ -1,11 +1,11 @@
 -- The loop that gives each user in a map the next byte.
-use Rattle.std.proofs.Common.{◌≡◌, ℕ, zero, suc, ◌+◌, ◌-◌, ◌*◌, ◌/◌, ◌%◌, ◌^◌, ◌<◌, ◌≤◌, Bool, true, false, cond, eqb, ◌≢◌, ◌⊎◌, List, [], ◌∷◌, ◌++◌, length, get_or, take, drop, set, replicate, sym, refl, ap, ◌∙◌, subst, inl, inr, ⊎_elim, append-nil, pow-suc, arith, length-append, length-drop}
+use Rattle.std.proofs.Common.{◌≡◌, ℕ, zero, suc, ◌+◌, ◌-◌, ◌*◌, ◌/◌, ◌%◌, ◌^◌, ◌<◌, ◌≤◌, Bool, true, false, cond, eqb, ◌≢◌, ◌⊎◌, List, [], ◌∷◌, ◌++◌, length, get_or, take, drop, set, replicate, sym, refl, ap, ◌∙◌, subst, ⊎_elim, append-nil, pow-suc, arith, length-drop}
 use Rattle.std.specs.List.{AllByRecursion}
 use Rattle.std.proofs.slice.Lists.{all_by_recursion_push}
 use Rattle.std.proofs.lemmas.Bool.{eqb-true, eqb-false, ne_eqb}
 use Rattle.std.proofs.lemmas.Nat.{div_below}
 use Rattle.std.proofs.lemmas.List.{take_more, take_more_set, drop_more, length_push, length-set, get_or-set_other, take_all, drop_all}
-use Rattle.records.specs.Rights.{marks_over, marks_number, bytes_of, RightsForm, Marked}
+use Rattle.records.specs.Rights.{marks_over, marks_number, bytes_of, Marked}
 
 marks_snoc : (P : List ℕ) (b m : ℕ) → marks_over (P ++ b ∷ []) m ≡ marks_over P (cond (eqb b 0) 0 1 + 2 * m)
 marks_snoc [] b m = refl

@@ -1,17 +1,15 @@
 -- A record in form is known by its bytes.
-use Rattle.std.proofs.Common.{◌≡◌, ℕ, zero, suc, ◌+◌, ◌-◌, ◌*◌, ◌/◌, ◌%◌, ◌^◌, ◌<◌, ◌≤◌, Bool, true, false, cond, not, eqb, ◌⊎◌, List, [], ◌∷◌, ◌++◌, length, get_or, take, drop, sym, refl, ap, ◌∙◌, subst, inl, inr, ⊎_elim, append_assoc, arith, length-append}
+use Rattle.std.proofs.Common.{◌≡◌, ℕ, ◌+◌, ◌*◌, ◌^◌, ◌<◌, Bool, true, false, cond, not, eqb, List, [], ◌∷◌, ◌++◌, length, take, sym, refl, ap, ◌∙◌, append_assoc, arith}
 use lib.Count.{ones}
-use Rattle.std.specs.List.{AllByRecursion}
 use Rattle.std.proofs.lemmas.List.{take_at, append_cancel_left}
 use Rattle.std.proofs.lemmas.Bool.{eqb-true}
 use Rattle.records.specs.declared.forms.UserRecord.{UserRecord}
 use Rattle.records.specs.declared.forms.GroupRecord.{GroupRecord}
 use Rattle.records.specs.declared.forms.ObjectRecord.{ObjectRecord}
-use Rattle.records.specs.declared.forms.Record.{Record}
 use Rattle.records.specs.declared.forms.Record.TheVariants as record_of
-use Rattle.bytes.specs.Bytes.{le, field_if}
+use Rattle.byte_cursor.specs.Bytes.{le}
 use Rattle.records.specs.Rights.{marks_number, bytes_of, RightsForm, rights_body}
-use Rattle.records.specs.Records.{field, has, users, groups, objects, encode, InForm, Unique}
+use Rattle.records.specs.Records.{field, users, groups, objects, Unique}
 use Rattle.records.proofs.Fields.{unique, absent, le_unique}
 use Rattle.records.proofs.Masks.{ones_marks, marks_fit}
 use Rattle.records.proofs.Users as of_users

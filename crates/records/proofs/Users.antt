@@ -1,10 +1,10 @@
 -- The fields of a user.
-use Rattle.std.proofs.Common.{◌≡◌, ℕ, ◌+◌, ◌-◌, ◌*◌, ◌/◌, ◌%◌, ◌^◌, ◌<◌, ◌≤◌, Bool, true, false, cond, not, eqb, List, [], ◌∷◌, ◌++◌, length, sym, refl, ap, ◌∙◌, subst, append_assoc, arith}
-use lib.Bits.{bit_and, and_high}
-use Rattle.bytes.specs.declared.cursors.Cursor.{Cursor}
+use Rattle.std.proofs.Common.{◌≡◌, ℕ, ◌+◌, ◌*◌, ◌≤◌, Bool, true, false, cond, not, eqb, ◌++◌, length, sym, refl, ◌∙◌, append_assoc, arith}
+use lib.Bits.{and_high}
+use Rattle.byte_cursor.specs.declared.cursors.Cursor.{Cursor}
 use Rattle.records.specs.declared.forms.UserRecord.{UserRecord}
 use Rattle.records.specs.declared.forms.RecordFault.TheVariants.{Form}
-use Rattle.bytes.specs.Bytes.{left, Took, Field}
+use Rattle.byte_cursor.specs.Bytes.{left, Field}
 use Rattle.records.specs.Records.{bit_of, field, has, users, Taken, NoneThere, Failed}
 use Rattle.records.proofs.Fields.{bit_tells, bit_at, bit_parts, took_more, field_took, step, field_length}
 

@@ -1,6 +1,6 @@
 -- How a record is written, and when it is in form.
-use Rattle.std.specs.Prelude.{◌≡◌, ℕ, zero, suc, ◌+◌, ◌*◌, ◌^◌, ◌<◌, ◌≤◌, Bool, true, false, cond, not, ◌⊎◌, List, [], ◌∷◌, ◌++◌, length, drop, ◌==◌, ◌≢◌, bit_and, slice_index}
-use Rattle.bytes.specs.declared.cursors.Cursor.{Cursor}
+use Rattle.std.specs.Prelude.{◌≡◌, ℕ, ◌+◌, ◌^◌, ◌<◌, ◌≤◌, Bool, cond, not, ◌⊎◌, List, [], ◌∷◌, ◌++◌, length, drop, ◌==◌, ◌≢◌, bit_and, slice_index}
+use Rattle.byte_cursor.specs.declared.cursors.Cursor.{Cursor}
 use Rattle.records.specs.declared.forms.GroupRecord.{GroupRecord}
 use Rattle.records.specs.declared.forms.UserRecord.{UserRecord}
 use Rattle.records.specs.declared.forms.ObjectRecord.{ObjectRecord}
@@ -8,7 +8,7 @@ use Rattle.records.specs.declared.forms.Record.{Record}
 use Rattle.records.specs.declared.forms.Record.TheVariants as record_of
 use Rattle.records.specs.declared.forms.RecordFault.{RecordFault}
 use Rattle.records.specs.declared.forms.RecordFault.TheVariants.{Bytes, Form, Order}
-use Rattle.bytes.specs.Bytes.{le, left, Took}
+use Rattle.byte_cursor.specs.Bytes.{le, left, Took}
 use Rattle.records.specs.Rights.{rights_size, marks_number, RightsForm, rights_body}
 
 -- the bit of weight w stands for a field that is not zero

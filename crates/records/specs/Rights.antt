@@ -1,7 +1,7 @@
 -- How the rights of the users are written.
 use Rattle.std.specs.Prelude.{◌≡◌, ℕ, ◌+◌, ◌*◌, ◌<◌, cond, List, [], ◌∷◌, ◌++◌, length, ◌==◌, count_ones, slice_index}
 use Rattle.std.specs.List.{AllByRecursion}
-use Rattle.bytes.specs.Bytes.{le}
+use Rattle.byte_cursor.specs.Bytes.{le}
 
 -- the map of the users with rights: user 0 is the lowest bit; m stands above the list's users
 abbrev pub marks_over : List ℕ → ℕ → ℕ

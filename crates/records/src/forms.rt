@@ -2,7 +2,7 @@
 ghost use Rattle.std.specs.Prelude.{◌≡◌};
 ghost use Rattle.records.specs.declared.forms.RecordFault.TheVariants.{Bytes};
 
-use bytes::CursorFault;
+use byte_cursor::CursorFault;
 
 #[derive(Clone, Copy, Debug, PartialEq)]
 pub struct UserRecord {

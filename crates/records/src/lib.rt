@@ -1,4 +1,6 @@
 //! The records of a roll, read from bytes.
+#![tactic(auto)]
+
 mod forms;
 mod reads;
 mod rights;

@@ -1,11 +1,11 @@
 //! Reads a record.
 ghost use Rattle.std.specs.Prelude.{◌≡◌, ◌<◌, ◌≤◌, if◌then◌else◌, MatchResult};
-ghost use Rattle.bytes.specs.Bytes.{left, Took};
+ghost use Rattle.byte_cursor.specs.Bytes.{left, Took};
 ghost use Rattle.records.specs.Records.{groups, users, objects, Taken, Failed, InForm, encode, Faulty};
 
 use crate::forms::{GroupRecord, ObjectRecord, Record, RecordFault, UserRecord};
 use crate::rights::{marks_of, read_rights, rights_part};
-use bytes::Cursor;
+use byte_cursor::Cursor;
 
 /// The map of a group's fields that are not zero.
 pub fn group_map(g: &GroupRecord) -> u8

@@ -1,9 +1,9 @@
 //! The rights field: a map of users, then a byte for each user in it.
 ghost use Rattle.std.specs.Prelude.{◌≡◌, length, if◌then◌else◌, MatchOption, MatchResult, ◌≢◌};
-ghost use Rattle.bytes.specs.Bytes.{left, Took, Short};
+ghost use Rattle.byte_cursor.specs.Bytes.{left, Took, Short};
 ghost use Rattle.records.specs.Rights.{rights_size, Marked, marks_number, RightsForm, rights_body};
 
-use bytes::{Cursor, CursorFault};
+use byte_cursor::{Cursor, CursorFault};
 
 /// All seven rights.
 const ALL_RIGHTS: u8 = 127;

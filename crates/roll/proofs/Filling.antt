@@ -1,9 +1,7 @@
 -- Slots that are filled one after another, and read again in order. Assumes nothing.
-use Rattle.std.proofs.Common.{◌≡◌, ℕ, zero, suc, ◌+◌, ◌-◌, ◌<◌, ◌≤◌, ◌≢◌, ◌⊎◌, List, [], ◌∷◌, ◌++◌, length, get_or, drop, set, replicate, Some, None, Option, sym, refl, ap, ◌∙◌, subst, ap₂, inl, inr, append_assoc, append-nil, le_of_suc-le-suc, not-suc-le-zero, arith, length-append, length-set, drop-cons, get_or-set_other, get_or-set_same}
-use lib.ListN.{length-replicate}
+use Rattle.std.proofs.Common.{◌≡◌, ℕ, zero, suc, ◌+◌, ◌-◌, ◌<◌, ◌≤◌, ◌≢◌, List, [], ◌∷◌, length, get_or, drop, set, Some, None, Option, sym, refl, ap, ◌∙◌, subst, arith, length-set, drop-cons, get_or-set_other, get_or-set_same}
 use Rattle.records.specs.declared.forms.Record.{Record}
 use Rattle.roll.specs.Slots.{slots}
-use Rattle.roll.specs.Rolls.{rank_of, Rising}
 
 module _ {A : Type 0} where
   -- a value for each of some numbers is put into its slot

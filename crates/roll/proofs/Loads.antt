@@ -1,16 +1,16 @@
 -- The loop that loads a roll.
-use Rattle.std.proofs.Common.{◌≡◌, ℕ, ◌+◌, ◌-◌, ◌<◌, ◌≤◌, eqb, List, [], ◌∷◌, ◌++◌, length, drop, Ok, Err, sym, refl, ap, ◌∙◌, subst, ⊎_elim, append_assoc, append-nil, arith, length-append, length-drop}
-use Rattle.std.specs.List.{flat_map, AllByRecursion}
+use Rattle.std.proofs.Common.{◌≡◌, ℕ, ◌+◌, ◌<◌, ◌≤◌, eqb, List, [], ◌∷◌, ◌++◌, length, drop, Ok, Err, sym, refl, ap, ◌∙◌, subst, ⊎_elim, append_assoc, append-nil, arith, length-append}
+use Rattle.std.specs.List.{flat_map}
 use Rattle.std.proofs.slice.Lists.{all_by_recursion_push}
 use Rattle.std.proofs.lemmas.List.{flat_map_more, nil_from_length}
 use Rattle.std.proofs.lemmas.Bool.{cases_eq, eq-eqb, ne_eqb}
-use Rattle.bytes.specs.declared.cursors.Cursor.{Cursor}
+use Rattle.byte_cursor.specs.declared.cursors.Cursor.{Cursor}
 use Rattle.records.specs.declared.forms.Record.{Record}
 use Rattle.records.specs.declared.forms.Record.TheVariants as record_of
 use Rattle.records.specs.declared.forms.RecordFault.{RecordFault}
 use Rattle.records.specs.declared.forms.RecordFault.TheVariants as record_fault
 use Rattle.tables.specs.declared.types.Tables.{Tables}
-use Rattle.bytes.specs.Bytes.{left, Took}
+use Rattle.byte_cursor.specs.Bytes.{left, Took}
 use Rattle.records.specs.Records.{encode, InForm, Faulty}
 use Rattle.tables.specs.State.{blank}
 use Rattle.roll.specs.Rolls.{rank_of, Rising, last_of, put_in, tables_from, Roll, Next, Says}

@@ -1,8 +1,7 @@
 -- A roll has one answer.
-use Rattle.std.proofs.Common.{◌≡◌, ℕ, ◌+◌, ◌-◌, ◌*◌, ◌^◌, ◌<◌, ◌≤◌, Bool, true, false, cond, not, eqb, ◌⊎◌, List, [], ◌∷◌, ◌++◌, length, drop, Ok, Err, Result, sym, refl, ap, ◌∙◌, subst, inl, inr, ⊎_elim, append_assoc, append-nil, arith, length-append}
+use Rattle.std.proofs.Common.{◌≡◌, ℕ, ◌+◌, ◌<◌, ◌≤◌, Bool, true, false, cond, not, eqb, ◌⊎◌, List, [], ◌∷◌, ◌++◌, length, drop, Ok, Err, sym, refl, ap, ◌∙◌, subst, inl, inr, ⊎_elim, append_assoc, append-nil, arith, length-append}
 use Rattle.std.specs.List.{flat_map, AllByRecursion}
 use Rattle.std.proofs.lemmas.List.{drop_at}
-use Rattle.bytes.specs.declared.cursors.CursorFault.{CursorFault}
 use Rattle.records.specs.declared.forms.UserRecord.{UserRecord}
 use Rattle.records.specs.declared.forms.GroupRecord.{GroupRecord}
 use Rattle.records.specs.declared.forms.ObjectRecord.{ObjectRecord}
@@ -11,15 +10,15 @@ use Rattle.records.specs.declared.forms.Record.TheVariants as record_of
 use Rattle.records.specs.declared.forms.RecordFault.{RecordFault}
 use Rattle.records.specs.declared.forms.RecordFault.TheVariants as record_fault
 use Rattle.tables.specs.declared.types.Tables.{Tables}
-use Rattle.bytes.specs.Bytes.{le}
-use Rattle.records.specs.Rights.{marks_number, rights_body, rights_size}
+use Rattle.byte_cursor.specs.Bytes.{le}
+use Rattle.records.specs.Rights.{rights_body, rights_size}
 use Rattle.records.specs.Records.{field, has, fixed, users, groups, objects, encode, InForm, Cut, Faulty, Whole}
 use Rattle.tables.specs.State.{blank}
-use Rattle.roll.specs.Rolls.{rank_of, Rising, last_of, put_in, tables_from, Roll, Next, Says, OneSaying}
+use Rattle.roll.specs.Rolls.{rank_of, Rising, last_of, tables_from, Next, Says, OneSaying}
 use Rattle.records.proofs.Fields.{length_le}
 use Rattle.roll.proofs.Loads.{some_bytes}
 use Rattle.records.proofs.Masks.{body_size}
-use Rattle.records.proofs.Unique.{unique_record, group_flag}
+use Rattle.records.proofs.Unique.{unique_record}
 use Rattle.records.proofs.Users as of_users
 use Rattle.records.proofs.Objects as of_objects
 

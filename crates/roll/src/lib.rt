@@ -1,4 +1,6 @@
 //! The roll: the tables as a canonical run of bytes.
+#![tactic(auto)]
+
 mod reading;
 mod slots;
 

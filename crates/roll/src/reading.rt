@@ -4,7 +4,7 @@ ghost use Rattle.records.specs.Records.{InForm};
 ghost use Rattle.roll.specs.Rolls.{rank_of, put_in, Says};
 
 use crate::slots::{table_object, table_role, table_user};
-use bytes::Cursor;
+use byte_cursor::Cursor;
 use records::{Record, RecordFault, read_record};
 use tables::types::Tables;
 

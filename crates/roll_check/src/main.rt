@@ -1,4 +1,6 @@
 //! Prints the file `roll` of the working directory in words: what it says, or why it is refused.
+#![tactic(auto)]
+
 use listing::report;
 use std::{fs, io};
 

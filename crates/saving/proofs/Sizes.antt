@@ -1,6 +1,6 @@
 -- How long records are.
-use Rattle.std.proofs.Common.{◌≡◌, ℕ, zero, suc, ◌+◌, ◌*◌, ◌/◌, ◌%◌, ◌<◌, ◌≤◌, Bool, true, false, cond, eqb, List, [], ◌∷◌, ◌++◌, length, sym, refl, ap, ◌∙◌, subst, arith, length-append}
-use Rattle.bytes.specs.Bytes.{le}
+use Rattle.std.proofs.Common.{◌≡◌, ℕ, zero, suc, ◌/◌, ◌≤◌, true, false, cond, eqb, List, [], ◌∷◌, ◌++◌, length, refl, ap, arith, length-append}
+use Rattle.byte_cursor.specs.Bytes.{le}
 use Rattle.records.specs.declared.forms.GroupRecord.{GroupRecord}
 use Rattle.records.specs.declared.forms.UserRecord.{UserRecord}
 use Rattle.records.specs.declared.forms.ObjectRecord.{ObjectRecord}

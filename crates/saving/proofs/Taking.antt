@@ -1,7 +1,7 @@
 -- Bytes taken one run after another, by any sink.
-use Rattle.std.proofs.Common.{◌≡◌, ℕ, cond, List, [], ◌∷◌, ◌++◌, sym, refl, ap, ◌∙◌, subst, append_assoc, append-nil}
+use Rattle.std.proofs.Common.{◌≡◌, ℕ, cond, List, [], ◌++◌, sym, ap, ◌∙◌, subst, append_assoc, append-nil}
 use Rattle.std.proofs.lemmas.Bool.{eq-eqb, ne_eqb}
-use Rattle.bytes.specs.Bytes.{le}
+use Rattle.byte_cursor.specs.Bytes.{le}
 use Rattle.records.specs.Records.{field}
 use Rattle.records.specs.Rights.{marks_number, bytes_of, rights_body}
 use Rattle.saving.specs.Takes.{Took}

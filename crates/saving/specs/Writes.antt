@@ -10,7 +10,7 @@ Counted a xs b = min b.count (2 ^ 64 - 1) ≡ min (a.count + length xs) (2 ^ 64 
 
 -- the buffer is the same, and the bytes xs stand in it where they fit
 pub record Written (a : Writer) (xs : List ℕ) (b : Writer) : Type 0 where
-  pub held : b.bytes.name ≡ a.bytes.name
+  pub held : b.bytes.ghost_name ≡ a.bytes.ghost_name
   pub long : length b.bytes.now ≡ length a.bytes.now
   pub bytes : a.place + length xs ≤ length a.bytes.now → b.bytes.now ≡ wrote a.bytes.now a.place xs
   pub place : a.place + length xs ≤ length a.bytes.now → b.place ≡ a.place + length xs

@@ -1,4 +1,6 @@
 //! Saves the tables as a roll in a lent buffer.
+#![tactic(auto)]
+
 mod entries;
 mod fields;
 mod saves;

@@ -1,11 +1,11 @@
 -- Calls that are answered one after another. Assumes nothing.
-use Rattle.std.proofs.Common.{◌≡◌, ℕ, suc, ◌+◌, ◌*◌, ◌/◌, ◌<◌, ◌≤◌, List, [], ◌∷◌, ◌++◌, length, get_or, drop, set, Some, None, Ok, Result, sym, refl, ap, ◌∙◌, subst, append_assoc, arith, length-append, drop-cons}
+use Rattle.std.proofs.Common.{◌≡◌, ℕ, suc, ◌+◌, ◌*◌, ◌/◌, ◌<◌, ◌≤◌, List, [], ◌∷◌, ◌++◌, length, get_or, drop, set, Ok, Result, sym, refl, ap, ◌∙◌, subst, append_assoc, arith, length-append, drop-cons}
 use lib.Seq.{set_at}
 use Rattle.std.specs.List.{flat_map}
 use Rattle.labels.specs.Meaning.{Meaning}
 use Rattle.tables.specs.declared.types.Tables.{Tables}
-use Rattle.bytes.specs.declared.cursors.Cursor.{Cursor}
-use Rattle.bytes.specs.Bytes.{left, Took}
+use Rattle.byte_cursor.specs.declared.cursors.Cursor.{Cursor}
+use Rattle.byte_cursor.specs.Bytes.{left, Took}
 use Rattle.calls.specs.declared.types.Call.{Call}
 use Rattle.calls.specs.declared.types.Refusal.{Refusal}
 use Rattle.calls.specs.Calls.{Answer}
@@ -23,11 +23,10 @@ use Rattle.stream.proofs.Steps.{Sofar, sofar_start, sofar_more, sofar_fault, sof
 use Rattle.monitor.specs.Decides.{Decided}
 use Rattle.monitor.specs.Loads.{Tells}
 use Rattle.monitor.proofs.Answers.{one_answer}
-use Rattle.stream.specs.Streams.{Streams}
 use Rattle.stream.proofs.Sure.{one_reading}
 use Rattle.session.specs.declared.outcomes.End.{End}
 use Rattle.session.specs.declared.outcomes.End.TheVariants.{Whole, BadCall, BadRoll, NoRoom}
-use Rattle.session.specs.Sessions.{Answered, Session, Stretch, Ran, OneRun}
+use Rattle.session.specs.Sessions.{Stretch, Ran, OneRun}
 
 -- n calls were answered from the tables `start` on, which are now t; the cursor stands behind the calls, and the buffer holds their answers
 pub record Going (m : Meaning) (start : Tables) (stream : List ℕ) (c : Cursor) (n : ℕ) (before now : List ℕ) (t : Tables) : Type 0 where

@@ -5,7 +5,7 @@ ghost use Rattle.histories.specs.Kept.{Kept};
 ghost use Rattle.session.specs.Sessions.{Stretch, Ran, OneRun};
 
 use crate::outcomes::{End, Outcome};
-use bytes::Cursor;
+use byte_cursor::Cursor;
 use calls::types::Refusal;
 use labels::Scheme;
 use monitor::Guard;

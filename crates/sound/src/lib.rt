@@ -1,6 +1,7 @@
 //! When the tables of a reference monitor are sound under a label scheme, decided exactly, with the first clause that fails.
 //!
 //! No function asks anything of its caller: every answer is exact on every table, whatever its slots hold.
+#![tactic(auto)]
 
 mod administrators;
 pub mod clauses;

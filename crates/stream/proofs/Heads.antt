@@ -1,14 +1,13 @@
 -- A call's map and number, and what follows them. Assumes nothing.
-use Rattle.std.proofs.Common.{◌≡◌, ℕ, zero, suc, ◌+◌, ◌^◌, ◌<◌, ◌≤◌, ◌⊎◌, List, [], ◌∷◌, ◌++◌, length, get_or, drop, sym, refl, ap, ◌∙◌, subst, inl, inr, ⊎_elim, arith, length-append}
-use Rattle.bytes.specs.declared.cursors.Cursor.{Cursor}
-use Rattle.bytes.specs.declared.cursors.CursorFault.{CursorFault}
-use Rattle.bytes.specs.Bytes.{left, Took}
+use Rattle.std.proofs.Common.{◌≡◌, ℕ, ◌+◌, ◌^◌, ◌<◌, List, [], ◌∷◌, ◌++◌, length, get_or, drop, sym, refl, ap, ◌∙◌, subst, inr, ⊎_elim, arith, length-append}
+use Rattle.byte_cursor.specs.declared.cursors.Cursor.{Cursor}
+use Rattle.byte_cursor.specs.declared.cursors.CursorFault.{CursorFault}
+use Rattle.byte_cursor.specs.Bytes.{left, Took}
 use Rattle.calls.specs.declared.types.Call.{Call}
 use Rattle.records.proofs.Fields.{took_more}
-use Rattle.stream.specs.declared.faults.CallFault.{CallFault}
 use Rattle.stream.specs.declared.faults.CallFault.TheVariants.{Bytes, Form}
 use Rattle.stream.specs.Forms.{number_of, arguments, widths, map_number, body_of, encode, Fit, InForm, size_of, Known}
-use Rattle.stream.specs.Faults.{Cut, Faulty, Unique, Whole}
+use Rattle.stream.specs.Faults.{Faulty, Unique, Whole}
 use Rattle.stream.specs.Inside.{Reads}
 use Rattle.stream.proofs.Lists.{map_lt, fit_length, bodies, body_size, reads_took, reads_fit, reads_long, reads_same}
 use Rattle.stream.proofs.Five.{same_call, some}

@@ -1,9 +1,9 @@
 -- Arguments that are read one after another. Assumes nothing.
-use Rattle.std.proofs.Common.{◌≡◌, ℕ, zero, suc, ◌+◌, ◌-◌, ◌*◌, ◌/◌, ◌%◌, ◌^◌, ◌<◌, ◌≤◌, Bool, true, false, cond, not, eqb, List, [], ◌∷◌, ◌++◌, length, sym, refl, ap, ◌∙◌, subst, ap₂, append_assoc, pow-suc, arith, length-append, eq-eqb}
+use Rattle.std.proofs.Common.{◌≡◌, ℕ, suc, ◌+◌, ◌*◌, ◌/◌, ◌^◌, ◌<◌, ◌≤◌, Bool, true, false, cond, not, eqb, List, [], ◌∷◌, ◌++◌, length, sym, refl, ap, ◌∙◌, ap₂, append_assoc, pow-suc, arith, length-append, eq-eqb}
 use Rattle.std.proofs.lemmas.Bool.{ne_eqb}
-use Rattle.bytes.specs.declared.cursors.Cursor.{Cursor}
-use Rattle.bytes.specs.Bytes.{le, left, Took, Field}
-use Rattle.records.specs.Records.{bit_of, field}
+use Rattle.byte_cursor.specs.declared.cursors.Cursor.{Cursor}
+use Rattle.byte_cursor.specs.Bytes.{le, left, Took}
+use Rattle.records.specs.Records.{field}
 use Rattle.records.proofs.Fields.{length_le, unique, absent, took_more, field_took, step, field_length}
 use Rattle.stream.specs.Forms.{map_number, body_of, Fit, odd, size_of}
 use Rattle.stream.specs.Inside.{Reads}

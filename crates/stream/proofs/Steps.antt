@@ -1,10 +1,10 @@
 -- Calls that are read one after another. Assumes nothing.
-use Rattle.std.proofs.Common.{◌≡◌, ℕ, ◌+◌, ◌<◌, ◌≤◌, List, [], ◌∷◌, ◌++◌, length, drop, Some, None, sym, refl, ap, ◌∙◌, subst, append_assoc, append-nil, arith, length-append}
+use Rattle.std.proofs.Common.{◌≡◌, ℕ, ◌+◌, ◌<◌, List, [], ◌∷◌, ◌++◌, length, drop, Some, None, sym, ap, ◌∙◌, subst, append_assoc, append-nil, arith, length-append}
 use Rattle.std.specs.List.{flat_map, AllByRecursion}
 use Rattle.std.proofs.slice.Lists.{all_by_recursion_push}
-use Rattle.std.proofs.lemmas.List.{flat_map_more, nil_from_length}
-use Rattle.bytes.specs.declared.cursors.Cursor.{Cursor}
-use Rattle.bytes.specs.Bytes.{left, Took}
+use Rattle.std.proofs.lemmas.List.{flat_map_more}
+use Rattle.byte_cursor.specs.declared.cursors.Cursor.{Cursor}
+use Rattle.byte_cursor.specs.Bytes.{left, Took}
 use Rattle.calls.specs.declared.types.Call.{Call}
 use Rattle.stream.specs.declared.faults.CallFault.{CallFault}
 use Rattle.stream.specs.Forms.{encode, InForm}

@@ -1,9 +1,8 @@
 -- Every byte string streams as one list of calls, with one end. Assumes nothing.
-use Rattle.std.proofs.Common.{◌≡◌, ℕ, ◌+◌, ◌<◌, ◌≤◌, ◌⊎◌, List, [], ◌∷◌, ◌++◌, length, Some, None, Ok, Err, Option, Result, sym, refl, ap, ◌∙◌, subst, inl, inr, ⊎_elim, append_assoc, append-nil, arith, length-append, MatchResult}
+use Rattle.std.proofs.Common.{◌≡◌, ℕ, ◌⊎◌, List, [], ◌∷◌, ◌++◌, length, Some, None, Ok, Err, Result, sym, refl, ap, ◌∙◌, subst, inl, inr, ⊎_elim, append_assoc, append-nil, arith, length-append, MatchResult}
 use Rattle.std.specs.List.{flat_map, AllByRecursion}
-use Rattle.bytes.specs.declared.cursors.Cursor.{Cursor}
-use Rattle.bytes.specs.Bytes.{left, Took}
-use Rattle.bytes.specs.declared.cursors.CursorFault.{CursorFault}
+use Rattle.byte_cursor.specs.declared.cursors.Cursor.{Cursor}
+use Rattle.byte_cursor.specs.Bytes.{left, Took}
 use Rattle.calls.specs.declared.types.Call.{Call}
 use Rattle.stream.specs.declared.faults.CallFault.{CallFault}
 use Rattle.stream.specs.declared.faults.CallFault.TheVariants.{Bytes, Form}

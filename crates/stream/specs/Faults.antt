@@ -1,5 +1,5 @@
 -- What is wrong with a call that cannot be read. Assumes nothing.
-use Rattle.std.specs.Prelude.{◌≡◌, ℕ, ◌<◌, ◌≤◌, ◌⊎◌, List, [], ◌∷◌, ◌++◌, length, drop, ◌≢◌, slice_index}
+use Rattle.std.specs.Prelude.{◌≡◌, ℕ, ◌<◌, ◌≤◌, ◌⊎◌, List, ◌++◌, length, drop, ◌≢◌, slice_index}
 use Rattle.calls.specs.declared.types.Call.{Call}
 use Rattle.stream.specs.declared.faults.CallFault.{CallFault}
 use Rattle.stream.specs.declared.faults.CallFault.TheVariants.{Bytes, Form}

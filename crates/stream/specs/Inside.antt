@@ -1,7 +1,7 @@
 -- What the private functions of the reader promise: each call is read as some of five arguments, four bytes and then a label. Assumes nothing.
-use Rattle.std.specs.Prelude.{◌≡◌, ℕ, ◌+◌, ◌*◌, ◌/◌, ◌%◌, ◌<◌, Bool, true, false, cond, List, [], ◌∷◌, get_or, ◌==◌, slice_index_or}
-use Rattle.bytes.specs.declared.cursors.Cursor.{Cursor}
-use Rattle.bytes.specs.Bytes.{Took, Field}
+use Rattle.std.specs.Prelude.{◌≡◌, ℕ, ◌+◌, ◌*◌, ◌/◌, ◌%◌, Bool, true, false, cond, List, [], ◌∷◌, get_or, ◌==◌, slice_index_or}
+use Rattle.byte_cursor.specs.declared.cursors.Cursor.{Cursor}
+use Rattle.byte_cursor.specs.Bytes.{Took, Field}
 use Rattle.calls.specs.declared.types.Call.{Call}
 use Rattle.calls.specs.declared.types.Call.TheVariants.{Enter, Launch, Leave, Read, Write, Create, Delete, Move, Raise, Mix, Unmix, Rights, Allow, Bar}
 use Rattle.stream.specs.declared.reads.Arguments.{Arguments}

@@ -1,5 +1,5 @@
 -- What a stream of calls says. Assumes nothing.
-use Rattle.std.specs.Prelude.{◌≡◌, ℕ, ◌<◌, List, [], ◌∷◌, ◌++◌, length, Some, None, Option}
+use Rattle.std.specs.Prelude.{◌≡◌, ℕ, ◌<◌, List, ◌++◌, length, Some, None, Option}
 use Rattle.std.specs.List.{flat_map, AllByRecursion}
 use Rattle.calls.specs.declared.types.Call.{Call}
 use Rattle.stream.specs.declared.faults.CallFault.{CallFault}

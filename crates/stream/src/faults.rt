@@ -3,7 +3,7 @@ ghost use Rattle.std.specs.Prelude.{◌≡◌};
 ghost use Rattle.stream.specs.declared.faults.CallFault.TheVariants.{Bytes};
 ghost use Rattle.stream.specs.Faults.{fault_number, fault_place};
 
-use bytes::CursorFault;
+use byte_cursor::CursorFault;
 
 /// The bytes end inside a call, or the call that begins at the place is in bad form.
 #[derive(Clone, Copy)]

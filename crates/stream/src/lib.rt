@@ -1,4 +1,6 @@
 //! The reader of a call stream: calls one after another, as bytes.
+#![tactic(auto)]
+
 mod faults;
 mod reads;
 

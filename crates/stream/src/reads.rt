@@ -1,13 +1,13 @@
 //! Reads a call: its map, its number, and the arguments in the map.
 ghost use Rattle.std.specs.Prelude.{◌≡◌, ℕ, ◌<◌, List, [], ◌++◌, length, Some, Ok, MatchOption, MatchResult};
-ghost use Rattle.bytes.specs.Bytes.{left, Took};
+ghost use Rattle.byte_cursor.specs.Bytes.{left, Took};
 ghost use Rattle.stream.specs.Forms.{encode, InForm, map_number, size_of, Known};
 ghost use Rattle.stream.specs.Faults.{Faulty};
 ghost use Rattle.stream.specs.Streams.{OneReading};
 ghost use Rattle.stream.specs.Inside.{five, listed, kept, spread_map, byte_call_of, call_of, Reads};
 
 use crate::faults::CallFault;
-use bytes::{Cursor, CursorFault};
+use byte_cursor::{Cursor, CursorFault};
 use calls::types::Call;
 
 /// The arguments that a call can have: up to four bytes, and a label behind them. What is absent is 0.

@@ -1,5 +1,5 @@
 -- What each change of the tables sets: the named field, and nothing else. Assumes nothing.
-use Rattle.std.specs.Prelude.{ℕ, Bool, map, set, None, Option, slice_index_or, slice_set}
+use Rattle.std.specs.Prelude.{ℕ, Bool, map, None, Option, slice_index_or, slice_set}
 use Rattle.std.specs.Option.{option_map}
 use Rattle.tables.specs.declared.sets.Rights.{Rights}
 use Rattle.tables.specs.declared.types.User.{User}

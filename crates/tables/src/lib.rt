@@ -2,6 +2,7 @@
 //! each change.
 //!
 //! No function asks anything of its caller: a number past a table, or an empty slot, gets an answer and changes nothing.
+#![tactic(auto)]
 
 pub mod changes;
 pub mod readers;

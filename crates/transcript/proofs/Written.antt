@@ -1,11 +1,11 @@
 -- The lines of answers one after another, and what a run printed. Assumes nothing.
-use Rattle.std.proofs.Common.{◌≡◌, ℕ, zero, suc, ◌+◌, ◌/◌, ◌<◌, ◌≤◌, List, [], ◌∷◌, ◌++◌, length, get_or, take, drop, Some, None, Option, sym, refl, ap, ◌∙◌, subst, append_assoc, append-nil, arith, length-append, take-append-drop, length-take-le, take-suc, take_at}
+use Rattle.std.proofs.Common.{◌≡◌, ℕ, suc, ◌+◌, ◌/◌, ◌<◌, ◌≤◌, List, [], ◌∷◌, ◌++◌, length, get_or, take, drop, Option, sym, ap, ◌∙◌, append_assoc, append-nil, arith, length-append, take-append-drop, length-take-le, take-suc, take_at}
 use Rattle.labels.specs.Meaning.{Meaning}
 use Rattle.tables.specs.declared.types.Tables.{Tables}
 use Rattle.stream.specs.declared.faults.CallFault.{CallFault}
 use Rattle.session.specs.declared.outcomes.End.{End}
 use Rattle.session.specs.declared.outcomes.End.TheVariants.{Whole, BadCall, BadRoll, NoRoom}
-use Rattle.session.specs.Sessions.{Session, Answered, Ran}
+use Rattle.session.specs.Sessions.{Session, Ran}
 use Rattle.transcript.specs.Printed.{line_of, lines_from, final_line, end_line, Printed, refused, taken}
 
 -- one more line at the end

@@ -1,4 +1,6 @@
 //! What is printed for a run of a roll and a call stream.
+#![tactic(auto)]
+
 mod lines;
 mod runs;
 

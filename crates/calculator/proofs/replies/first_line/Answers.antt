@@ -1,4 +1,3 @@
-use Rattle.std.proofs.Common.{arith}
 use Rattle.calculator.proofs.Reading.{one_more, rest_shorter, one_last}
 use Rattle.calculator.proofs.replies.first_line.Goals as goal
 

@@ -9,7 +9,7 @@ pub returns-in-Create : goal.returns-in-Create
 returns-in-Create c =
     let t = c.args.t.now in
     let p = c.in-Create in
-    c.add-object.ensures
-    ∙ ap (λ (x : Object). put_object t p.number (Some x)) c.new-object.ensures
-    ∙ ap (λ (u : ℕ). put_object t p.number (Some (created u p.parent p.kind p.label))) c.user-of-owner.ensures
+    c.add_object.ensures
+    ∙ ap (λ (x : Object). put_object t p.number (Some x)) c.new_object.ensures
+    ∙ ap (λ (u : ℕ). put_object t p.number (Some (created u p.parent p.kind p.label))) c.user_of-owner.ensures
     ∙ ap (λ (x : Call). effect t x) (sym p.is)

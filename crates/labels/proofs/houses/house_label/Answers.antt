@@ -8,5 +8,5 @@ use Rattle.labels.proofs.houses.house_label.Goals as goal
 pub returns : goal.returns
 unfolding house
 returns c =
-    let e : house_of c.new.result ≡ house = c.new.ensures ∙ ap₂ (pair 32) c.secrecy-label-secrecy.ensures c.trust-label-trust.ensures in
+    let e : house_of c.new.result ≡ house = c.new.ensures ∙ ap₂ (pair 32) c.secrecy_label-secrecy.ensures c.trust_label-trust.ensures in
     record { meaning = e; parts = subst AnswersByParts (sym e) house_by_parts }

@@ -8,5 +8,5 @@ returns c =
     let said : Bool → List ℕ = λ b. cond b (codes ", mixed") [] in
     let m : c.if-object.mark.now ≡ cond c.args.object.now.mixed (codes ", mixed") [] =
     elim c.if-object.branch [ then-object w ↦ ap (λ x. x.now) w.mark-is ∙ sym (ap said w.if-object.true) | else-object w ↦ ap (λ x. x.now) w.mark-is ∙ sym (ap said w.if-object.false) ] in
-    let k : c.kind-word-kind.result.now ≡ word_of_kind c.args.object.now.kind = c.kind-word-kind.ensures in
+    let k : c.kind_word-kind.result.now ≡ word_of_kind c.args.object.now.kind = c.kind_word-kind.ensures in
     rw (← m, ← k) c.format.ensures.ok

@@ -1,27 +1,27 @@
 use Rattle.std.proofs.Common.{◌≡◌, ℕ, Bool, cond, List, ◌++◌, codes, decimal, sym, ap, ◌∙◌}
 use Rattle.std.proofs.lemmas.Result.{IfOk-from_err, IfOk-weaker}
 use Rattle.listing.proofs.reports.list.Goals as goal
-use Rattle.listing.proofs.reports.list.Goals.{then_same, else_same}
+use Rattle.listing.proofs.reports.list.Goals.{then-same, else-same}
 
 -- equal parts make equal texts
 joined : (n : ℕ) (a b c d a' b' c' d' : List ℕ) → a ≡ a' → b ≡ b' → c ≡ c' → d ≡ d'
     → a ++ (b ++ (c ++ (decimal n ++ (codes " bytes, saved as " ++ (d ++ codes " bytes\n"))))) ≡ a' ++ (b' ++ (c' ++ (decimal n ++ (codes " bytes, saved as " ++ (d' ++ codes " bytes\n")))))
 joined n a b c d a' b' c' d' p q r s = cc
 
-pub returns-in-err-users : goal.returns-in-err-users
-returns-in-err-users c = IfOk-from_err c.from-residual.result _ c.from-residual.ensures.0
+pub returns-in_err-users : goal.returns-in_err-users
+returns-in_err-users c = IfOk-from_err c.from_residual.result _ c.from_residual.ensures.0
 
-pub returns-in-err-groups : goal.returns-in-err-groups
-returns-in-err-groups c = IfOk-from_err c.from-residual-in-err-groups.result _ c.from-residual-in-err-groups.ensures.0
+pub returns-in_err-groups : goal.returns-in_err-groups
+returns-in_err-groups c = IfOk-from_err c.from_residual-in_err-groups.result _ c.from_residual-in_err-groups.ensures.0
 
-pub returns-in-err-objects : goal.returns-in-err-objects
-returns-in-err-objects c = IfOk-from_err c.from-residual-in-err-objects.result _ c.from-residual-in-err-objects.ensures.0
+pub returns-in_err-objects : goal.returns-in_err-objects
+returns-in_err-objects c = IfOk-from_err c.from_residual-in_err-objects.result _ c.from_residual-in_err-objects.ensures.0
 
 pub returns : goal.returns
 returns c =
     let said : Bool → List ℕ = λ b. cond b (codes "the same") (codes "OTHER") in
     let m : c.if-same.which.now ≡ said c.args.same =
-    elim c.if-same.branch [ then_same w ↦ ap (λ x. x.now) w.which-is ∙ sym (ap said w.if-same.true) | else_same w ↦ ap (λ x. x.now) w.which-is ∙ sym (ap said w.if-same.false) ] in
+    elim c.if-same.branch [ then-same w ↦ ap (λ x. x.now) w.which-is ∙ sym (ap said w.if-same.true) | else-same w ↦ ap (λ x. x.now) w.which-is ∙ sym (ap said w.if-same.false) ] in
     IfOk-weaker c.format.result _ _
-    (λ s h. h ∙ joined c.args.count _ _ _ _ _ _ _ _ c.in-ok-users.ensures c.in-ok-groups.ensures c.in-ok-objects.ensures m)
+    (λ s h. h ∙ joined c.args.count _ _ _ _ _ _ _ _ c.in_ok-users.ensures c.in_ok-groups.ensures c.in_ok-objects.ensures m)
     c.format.ensures.ok

@@ -1,4 +1,4 @@
-use Rattle.std.proofs.Common.{◌≡◌, ℕ, Bool, true, length, Ok, Err, string_bytes, Result, ap, ◌∙◌, subst}
+use Rattle.std.proofs.Common.{◌≡◌, true, length, Ok, Err, ap, ◌∙◌, subst}
 use Rattle.std.proofs.lemmas.Result.{IfOk-from_err, IfOk-weaker}
 use Rattle.labels.specs.Built.{house_of}
 use Rattle.labels.specs.House.{house}
@@ -8,24 +8,24 @@ use Rattle.monitor.specs.Loads.{Loads}
 use Rattle.listing.specs.Reports.{listed}
 use Rattle.listing.proofs.reports.report.Goals as goal
 
-pub returns-in-err-same : goal.returns-in-err-same
-returns-in-err-same c = IfOk-from_err c.from-residual.result _ c.from-residual.ensures.0
+pub returns-in_err-same-in-Ok : goal.returns-in_err-same-in-Ok
+returns-in_err-same-in-Ok c = IfOk-from_err c.from_residual.result _ c.from_residual.ensures.0
 
-pub returns-in-ok-same : goal.returns-in-ok-same
-returns-in-ok-same c =
+pub returns-in_ok-same-in-Ok : goal.returns-in_ok-same-in-Ok
+returns-in_ok-same-in-Ok c =
     let bytes = c.args.bytes.now in
     let t = c.load.new.self.tables in
-    let m : house_of c.new-guard.result.scheme ≡ house = ap house_of c.new-guard.ensures.scheme ∙ c.house-label.ensures.meaning in
+    let m : house_of c.new-guard.result.scheme ≡ house = ap house_of c.new-guard.ensures.scheme ∙ c.house_label.ensures.meaning in
     let loads = subst (λ (m : Meaning). Loads m bytes (Ok tt) t) m c.in-Ok.ensures.loads in
-    let same : c.in-ok-same.same ≡ true = c.in-ok-same.ensures.1 c.in-Ok.ensures.saved in
+    let same : c.in_ok-same-in-Ok.same ≡ true = c.in_ok-same-in-Ok.ensures.1 c.in-Ok.ensures.saved in
     IfOk-weaker c.list.result _ _
-    (λ s h. (Ok tt, t, loads, h ∙ ap (λ (u : Tables). listed u (length bytes) c.in-ok-same.same) c.tables.ensures ∙ ap (listed t (length bytes)) same))
+    (λ s h. (Ok tt, t, loads, h ∙ ap (λ (u : Tables). listed u (length bytes) c.in_ok-same-in-Ok.same) c.tables.ensures ∙ ap (listed t (length bytes)) same))
     c.list.ensures
 
 pub returns-in-Err : goal.returns-in-Err
 returns-in-Err c =
     let bytes = c.args.bytes.now in
     let t = c.load.new.self.tables in
-    let m : house_of c.new-guard.result.scheme ≡ house = ap house_of c.new-guard.ensures.scheme ∙ c.house-label.ensures.meaning in
+    let m : house_of c.new-guard.result.scheme ≡ house = ap house_of c.new-guard.ensures.scheme ∙ c.house_label.ensures.meaning in
     let loads = subst (λ (m : Meaning). Loads m bytes (Err c.in-Err.fault) t) m c.in-Err.ensures.loads in
     IfOk-weaker c.format.result _ _ (λ s h. (Err c.in-Err.fault, t, loads, h)) c.format.ensures.ok

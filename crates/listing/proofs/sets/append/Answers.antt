@@ -7,10 +7,10 @@ added : {X Y : Type 0} (r : Result X Y) (before after text bs : List ℕ) → af
 added (Ok x) before after text bs e is = e ∙ ap (λ (l : List ℕ). before ++ l) is
 added (Err y) before after text bs e is = tt
 
-pub returns-in-err-text : goal.returns-in-err-text
-returns-in-err-text c = λ bs h. IfOk-from_err c.from-residual.result _ c.from-residual.ensures.0
+pub returns-in_err-text : goal.returns-in_err-text
+returns-in_err-text c = λ bs h. IfOk-from_err c.from_residual.result _ c.from_residual.ensures.0
 
 pub returns : goal.returns
 returns c =
-    λ bs h. added c.push-str.result (string_bytes c.args.out.now) (string_bytes c.push-str.new.self) c.as-str.result.now bs c.push-str.ensures.bytes
-    (c.as-str.ensures.value ∙ IfOk-at_ok (λ s. string_bytes s ≡ bs) c.in-ok-text.was h)
+    λ bs h. added c.push_str.result (string_bytes c.args.out.now) (string_bytes c.push_str.new.self) c.as_str.result.now bs c.push_str.ensures.bytes
+    (c.as_str.ensures.value ∙ IfOk-at_ok (λ s. string_bytes s ≡ bs) c.in_ok-text.was h)

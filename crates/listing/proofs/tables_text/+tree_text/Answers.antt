@@ -6,19 +6,19 @@ use Rattle.listing.specs.Listed.{each, line_of_object, under, text_of_tree}
 use Rattle.listing.proofs.Each.{started, stepped, passed}
 use Rattle.listing.proofs.Trees.{under_some, under_none, tree_leaf, tree_node, tree_next}
 use Rattle.listing.proofs.tables_text.+tree_text.Goals as goal
-use Rattle.listing.proofs.tables_text.+tree_text.Goals.{in-Some+in-ok-append, in-default, then-depth+else-loop-o-test, else-depth}
+use Rattle.listing.proofs.tables_text.+tree_text.Goals.{in-Some+in_ok-append, in_default, then-depth+else-loop-o-test, else-depth}
 
-pub returns-in-err-out : goal.returns-in-err-out
-returns-in-err-out t c = IfOk-from_err c.from-residual.result _ c.from-residual.ensures.0
+pub returns-in_err-out : goal.returns-in_err-out
+returns-in_err-out t c = IfOk-from_err c.from_residual.result _ c.from_residual.ensures.0
 
-pub returns-in-err-append : goal.returns-in-err-append
-returns-in-err-append t c = IfOk-from_err c.from-residual-in-err-append.result _ c.from-residual-in-err-append.ensures.0
+pub returns-in_err-append : goal.returns-in_err-append
+returns-in_err-append t c = IfOk-from_err c.from_residual-in_err-append.result _ c.from_residual-in_err-append.ensures.0
 
 pub loop-o-init : goal.loop-o-init
 loop-o-init t c =
     let line = line_of_object c.args.depth c.args.number c.args.object.now in
     let f : ℕ → List ℕ = under c.args.t.now c.args.number (λ o y. text_of_tree c.args.t.now (63 - c.args.depth) (c.args.depth + 1) o y) in
-    passed line f 0 (string_bytes c.in-ok-out.out) (started line f (string_bytes c.in-ok-out.out) c.in-ok-out.ensures) refl
+    passed line f 0 (string_bytes c.in_ok-out.out) (started line f (string_bytes c.in_ok-out.out) c.in_ok-out.ensures) refl
 
 pub loop-o-preserved : goal.loop-o-preserved
 loop-o-preserved t c =
@@ -27,16 +27,16 @@ loop-o-preserved t c =
     let f : ℕ → List ℕ = under c.args.t.now c.args.number g in
     let o = c.loop-o.o in
     let past : 0 < o = omega arith in
-    elim c.match-child-of.branch [
-      | in-Some+in-ok-append w ↦
+    elim c.match-child_of.branch [
+      | in-Some+in_ok-append w ↦
           let text = text_of_tree c.args.t.now (64 - (c.args.depth + 1)) (c.args.depth + 1) o w.in-Some.child.now in
-          let child = sym c.child-of.ensures ∙ ap (option_map (λ x. x.now)) w.in-Some.is in
-          stepped line f o (string_bytes c.loop-o.out) (string_bytes c.match-child-of.out) text c.loop-o.invariant
-          (ap string_bytes w.out-is ∙ w.in-ok-append.ensures text w.tree-text.ensures)
+          let child = sym c.child_of.ensures ∙ ap (option_map (λ x. x.now)) w.in-Some.is in
+          stepped line f o (string_bytes c.loop-o.out) (string_bytes c.match-child_of.out) text c.loop-o.invariant
+          (ap string_bytes w.out-is ∙ w.in_ok-append.ensures text w.tree_text.ensures)
           (under_some c.args.t.now c.args.number g o w.in-Some.child.now past child
           ∙ tree_next c.args.t.now c.args.depth o w.in-Some.child.now c.if-depth.true)
-      | in-default w ↦
-          let child = sym c.child-of.ensures ∙ ap (option_map (λ x. x.now)) w.in-default.is in
+      | in_default w ↦
+          let child = sym c.child_of.ensures ∙ ap (option_map (λ x. x.now)) w.in_default.is in
           ap string_bytes w.out-is ∙ passed line f o (string_bytes c.loop-o.out) c.loop-o.invariant (under_none c.args.t.now c.args.number g o past child)
     ]
 
@@ -51,5 +51,5 @@ returns t c =
           (ap string_bytes w.out-is ∙ w.loop-o.invariant ∙ ap (λ (k : ℕ). line ++ each f k) all)
       | else-depth w ↦
           tree_leaf c.args.t.now c.args.depth c.args.number c.args.object.now (string_bytes c.if-depth.out) w.if-depth.false
-          (ap string_bytes w.out-is ∙ c.in-ok-out.ensures)
+          (ap string_bytes w.out-is ∙ c.in_ok-out.ensures)
     ]

@@ -2,8 +2,8 @@ use Rattle.std.proofs.Common.{◌≡◌, ◌+◌, ◌-◌, ◌++◌, string_byte
 use Rattle.listing.specs.Listed.{each, line_of_object, under, text_of_tree}
 use Rattle.listing.proofs.tables_text.+tree_text.Given as goal
 
-abbrev pub decreases-tree-text : goal.decreases-tree-text
-decreases-tree-text l = 64 - l.depth
+abbrev pub decreases-tree_text : goal.decreases-tree_text
+decreases-tree_text l = 64 - l.depth
 
 abbrev pub invariant-loop-o : goal.invariant-loop-o
 invariant-loop-o l =

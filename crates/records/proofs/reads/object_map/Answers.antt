@@ -3,4 +3,4 @@ use Rattle.records.proofs.reads.object_map.Goals as goal
 
 pub returns : goal.returns
 returns c =
-    object_map c.args.o.now c.marks-of.ensures c.bit.ensures.value c.bit_2.ensures.value c.bit_3.ensures.value c.bit_4.ensures.value c.bit-5.ensures.value c.bit-6.ensures.value c.bit-7.ensures.value
+    object_map c.args.o.now c.marks_of.ensures c.bit.ensures.value c.bit-2.ensures.value c.bit-3.ensures.value c.bit-4.ensures.value c.bit-5.ensures.value c.bit-6.ensures.value c.bit-7.ensures.value

@@ -1,4 +1,4 @@
-use Rattle.std.proofs.Common.{◌≡◌, ◌-◌, ◌^◌, ◌<◌, ◌≤◌, cond, eqb, length, get_or, drop, sym, refl, ap, ◌∙◌, arith, length-drop}
+use Rattle.std.proofs.Common.{◌≡◌, cond, drop, sym, ap, ◌∙◌, arith, length-drop}
 use Rattle.std.proofs.lemmas.List.{drop_all}
 use Rattle.std.proofs.lemmas.Bool.{eq-eqb, ne_eqb}
 use Rattle.records.specs.Rights.{marks_number}
@@ -9,13 +9,13 @@ use Rattle.records.proofs.rights.marks_of.Goals.{then-rights-u-ne0, else-rights-
 pub loop-u-init : goal.loop-u-init
 loop-u-init c = sym (ap marks_number (drop_all 16 c.args.rights.now (omega (arith, c.told-rights))))
 
-pub overflow-mul-m : goal.overflow-mul-m
-overflow-mul-m c =
+pub overflow_mul-m : goal.overflow_mul-m
+overflow_mul-m c =
     let i : c.loop-u.m ≡ marks_number (drop c.loop-u.u c.args.rights.now) = c.loop-u.invariant in
     omega (arith, marks_small (drop c.loop-u.u c.args.rights.now) 15 (simp length-drop (omega arith)))
 
-pub overflow-add-m : goal.overflow-add-m
-overflow-add-m c =
+pub overflow_add-m : goal.overflow_add-m
+overflow_add-m c =
     let i : c.loop-u.m ≡ marks_number (drop c.loop-u.u c.args.rights.now) = c.loop-u.invariant in
     let s = marks_small (drop c.loop-u.u c.args.rights.now) 15 (simp length-drop (omega arith)) in
     elim c.if-rights-u-ne0.branch [ then-rights-u-ne0 w ↦ omega (arith, w.m-is) | else-rights-u-ne0 w ↦ omega (arith, w.m-is) ]

@@ -1,7 +1,7 @@
-use Rattle.std.proofs.Common.{◌≡◌, ℕ, ◌<◌, length, get_or, drop, sym, refl, ◌∙◌, subst, arith, rules}
+use Rattle.std.proofs.Common.{drop, sym, refl, ◌∙◌, arith, rules}
 use Rattle.std.proofs.lemmas.List.{nil_from_length, take_rest}
-use Rattle.records.specs.Rights.{RightsForm, Marked, rights_body}
-use Rattle.records.proofs.Masks.{Tells, tells, writes, some_weaker}
+use Rattle.records.specs.Rights.{Marked}
+use Rattle.records.proofs.Masks.{tells, writes, some_weaker}
 use Rattle.records.proofs.rights.read_rights.Goals as goal
 
 pub returns-then-part-eq0 : goal.returns-then-part-eq0
@@ -11,13 +11,13 @@ pub returns-then-part-lt2 : goal.returns-then-part-lt2
 returns-then-part-lt2 c = λ rs f e. let t = tells c.args.part.now rs f e (search rules) in omega (arith, t.long)
 
 pub returns-then-users-eq0 : goal.returns-then-users-eq0
-returns-then-users-eq0 c = λ rs f e. let t = tells c.args.part.now rs f e (omega arith) in t.some (t.marks ∙ sym c.from-le-bytes-users.ensures ∙ c.if-users-eq0.true)
+returns-then-users-eq0 c = λ rs f e. let t = tells c.args.part.now rs f e (omega arith) in t.some (t.marks ∙ sym c.from_le_bytes-users.ensures ∙ c.if-users-eq0.true)
 
 pub returns : goal.returns
 returns c =
     let p = c.args.part.now in
-    let v = c.from-le-bytes-users.result in
+    let v = c.from_le_bytes-users.result in
     let h : Rattle.std.specs.Option.MatchOption c.spread.result ((rs : _) → Marked v (drop 2 p) rs → ⊥) (Marked v (drop 2 p)) = simp take_rest at c.spread.ensures in
     some_weaker c.spread.result h
-    (λ none rs f e. let t = tells p rs f e (omega arith) in none rs (record { form = f; marks_are = t.marks ∙ sym c.from-le-bytes-users.ensures; bytes_are = t.bytes }))
-    (λ rs k. (k.form, writes p rs v c.if-part-lt2.false (search rules) (search rules) c.from-le-bytes-users.ensures c.if-users-eq0.false k))
+    (λ none rs f e. let t = tells p rs f e (omega arith) in none rs (record { form = f; marks_are = t.marks ∙ sym c.from_le_bytes-users.ensures; bytes_are = t.bytes }))
+    (λ rs k. (k.form, writes p rs v c.if-part-lt2.false (search rules) (search rules) c.from_le_bytes-users.ensures c.if-users-eq0.false k))

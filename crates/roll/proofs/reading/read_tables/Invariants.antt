@@ -1,6 +1,6 @@
 use Rattle.std.proofs.Common.{List, length}
 use Rattle.records.specs.declared.forms.Record.{Record}
-use Rattle.bytes.specs.Bytes.{left}
+use Rattle.byte_cursor.specs.Bytes.{left}
 use Rattle.roll.proofs.Loads.{Sofar}
 use Rattle.roll.proofs.reading.read_tables.Given as goal
 

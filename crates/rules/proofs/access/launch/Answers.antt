@@ -11,13 +11,13 @@ returns-then-number-ge-SUBJECTS g c =
     let eo = c.in-Some-object.ensures in
     no_number m t c.args.subject c.args.program c.args.number c.args.label es eo c.if-number-ge-SUBJECTS.true
 
-pub returns-then-is-some : goal.returns-then-is-some
-returns-then-is-some g c =
+pub returns-then-is_some : goal.returns-then-is_some
+returns-then-is_some g c =
     let m = g.S.Scheme.meaning c.args.scheme.now in
     let t = c.args.t.now in
     let es = c.in-Some.ensures in
     let eo = c.in-Some-object.ensures in
-    taken m t c.args.subject c.args.program c.args.number c.args.label es eo c.if-number-ge-SUBJECTS.false (taken_subject t c.args.number (λ x. x.now) c.subject-2.result c.subject-2.ensures c.if-is-some.ensures)
+    taken m t c.args.subject c.args.program c.args.number c.args.label es eo c.if-number-ge-SUBJECTS.false (taken_subject t c.args.number (λ x. x.now) c.subject-2.result c.subject-2.ensures c.if-is_some.ensures)
 
 pub returns-then-not-label : goal.returns-then-not-label
 returns-then-not-label g c =
@@ -25,7 +25,7 @@ returns-then-not-label g c =
     let t = c.args.t.now in
     let es = c.in-Some.ensures in
     let eo = c.in-Some-object.ensures in
-    no_label m t c.args.subject c.args.program c.args.number c.args.label es eo c.if-number-ge-SUBJECTS.false (subject_is_free t c.args.number (λ x. x.now) c.subject-2.result c.subject-2.ensures c.if-is-some.ensures) c.if-not-label.ensures
+    no_label m t c.args.subject c.args.program c.args.number c.args.label es eo c.if-number-ge-SUBJECTS.false (subject_is_free t c.args.number (λ x. x.now) c.subject-2.result c.subject-2.ensures c.if-is_some.ensures) c.if-not-label.ensures
 
 pub returns-in-Program : goal.returns-in-Program
 returns-in-Program g c =
@@ -33,8 +33,8 @@ returns-in-Program g c =
     let t = c.args.t.now in
     let es = c.in-Some.ensures in
     let eo = c.in-Some-object.ensures in
-    let p0 = seated m t c.args.subject c.args.program c.args.number c.args.label es eo c.if-number-ge-SUBJECTS.false (subject_is_free t c.args.number (λ x. x.now) c.subject-2.result c.subject-2.ensures c.if-is-some.ensures) c.if-not-label.ensures in
-    no_right m t c.args.subject c.args.program c.args.number c.args.label es eo p0 c.in-Program.is c.if-not-has-right.ensures
+    let p0 = seated m t c.args.subject c.args.program c.args.number c.args.label es eo c.if-number-ge-SUBJECTS.false (subject_is_free t c.args.number (λ x. x.now) c.subject-2.result c.subject-2.ensures c.if-is_some.ensures) c.if-not-label.ensures in
+    no_right m t c.args.subject c.args.program c.args.number c.args.label es eo p0 c.in-Program.is c.if-not-has_right.ensures
 
 pub returns-in-Program-2 : goal.returns-in-Program-2
 returns-in-Program-2 g c =
@@ -42,8 +42,8 @@ returns-in-Program-2 g c =
     let t = c.args.t.now in
     let es = c.in-Some.ensures in
     let eo = c.in-Some-object.ensures in
-    let p0 = seated m t c.args.subject c.args.program c.args.number c.args.label es eo c.if-number-ge-SUBJECTS.false (subject_is_free t c.args.number (λ x. x.now) c.subject-2.result c.subject-2.ensures c.if-is-some.ensures) c.if-not-label.ensures in
-    not_listed m t c.args.subject c.args.program c.args.number c.args.label es eo p0 c.in-Program.is c.if-not-has-right.ensures (by_neither m t c.args.subject c.args.program c.args.number c.args.label es eo c.is-listed-listed.ensures c.if-not-listed.true c.is-admin-admin.ensures c.if-not-admin.true)
+    let p0 = seated m t c.args.subject c.args.program c.args.number c.args.label es eo c.if-number-ge-SUBJECTS.false (subject_is_free t c.args.number (λ x. x.now) c.subject-2.result c.subject-2.ensures c.if-is_some.ensures) c.if-not-label.ensures in
+    not_listed m t c.args.subject c.args.program c.args.number c.args.label es eo p0 c.in-Program.is c.if-not-has_right.ensures (by_neither m t c.args.subject c.args.program c.args.number c.args.label es eo c.is_listed-listed.ensures c.if-not-listed.true c.is_admin-admin.ensures c.if-not-admin.true)
 
 pub returns-in-Program-3 : goal.returns-in-Program-3
 returns-in-Program-3 g c =
@@ -52,11 +52,11 @@ returns-in-Program-3 g c =
     let es = c.in-Some.ensures in
     let eo = c.in-Some-object.ensures in
     let by : ListedBy m t c.args.subject c.args.program c.args.number c.args.label es eo c.in-Some.s.now.user = elim c.if-not-listed.branch [
-      | then-not-listed+else-not-admin w ↦ by_admin m t c.args.subject c.args.program c.args.number c.args.label es eo c.is-admin-admin.ensures w.if-not-admin.false
-      | else-not-listed w ↦ by_list m t c.args.subject c.args.program c.args.number c.args.label es eo c.is-listed-listed.ensures w.if-not-listed.false
+      | then-not-listed+else-not-admin w ↦ by_admin m t c.args.subject c.args.program c.args.number c.args.label es eo c.is_admin-admin.ensures w.if-not-admin.false
+      | else-not-listed w ↦ by_list m t c.args.subject c.args.program c.args.number c.args.label es eo c.is_listed-listed.ensures w.if-not-listed.false
     ] in
-    let p0 = seated m t c.args.subject c.args.program c.args.number c.args.label es eo c.if-number-ge-SUBJECTS.false (subject_is_free t c.args.number (λ x. x.now) c.subject-2.result c.subject-2.ensures c.if-is-some.ensures) c.if-not-label.ensures in
-    let p1 = listed m t c.args.subject c.args.program c.args.number c.args.label es eo p0 c.in-Program.is c.if-not-has-right.ensures by in
+    let p0 = seated m t c.args.subject c.args.program c.args.number c.args.label es eo c.if-number-ge-SUBJECTS.false (subject_is_free t c.args.number (λ x. x.now) c.subject-2.result c.subject-2.ensures c.if-is_some.ensures) c.if-not-label.ensures in
+    let p1 = listed m t c.args.subject c.args.program c.args.number c.args.label es eo p0 c.in-Program.is c.if-not-has_right.ensures by in
     stop1 m t c.args.subject c.args.program c.args.number c.args.label es eo p1 c.if-not-flows.ensures
 
 pub returns-in-Program-4 : goal.returns-in-Program-4
@@ -66,11 +66,11 @@ returns-in-Program-4 g c =
     let es = c.in-Some.ensures in
     let eo = c.in-Some-object.ensures in
     let by : ListedBy m t c.args.subject c.args.program c.args.number c.args.label es eo c.in-Some.s.now.user = elim c.if-not-listed.branch [
-      | then-not-listed+else-not-admin w ↦ by_admin m t c.args.subject c.args.program c.args.number c.args.label es eo c.is-admin-admin.ensures w.if-not-admin.false
-      | else-not-listed w ↦ by_list m t c.args.subject c.args.program c.args.number c.args.label es eo c.is-listed-listed.ensures w.if-not-listed.false
+      | then-not-listed+else-not-admin w ↦ by_admin m t c.args.subject c.args.program c.args.number c.args.label es eo c.is_admin-admin.ensures w.if-not-admin.false
+      | else-not-listed w ↦ by_list m t c.args.subject c.args.program c.args.number c.args.label es eo c.is_listed-listed.ensures w.if-not-listed.false
     ] in
-    let p0 = seated m t c.args.subject c.args.program c.args.number c.args.label es eo c.if-number-ge-SUBJECTS.false (subject_is_free t c.args.number (λ x. x.now) c.subject-2.result c.subject-2.ensures c.if-is-some.ensures) c.if-not-label.ensures in
-    let p1 = listed m t c.args.subject c.args.program c.args.number c.args.label es eo p0 c.in-Program.is c.if-not-has-right.ensures by in
+    let p0 = seated m t c.args.subject c.args.program c.args.number c.args.label es eo c.if-number-ge-SUBJECTS.false (subject_is_free t c.args.number (λ x. x.now) c.subject-2.result c.subject-2.ensures c.if-is_some.ensures) c.if-not-label.ensures in
+    let p1 = listed m t c.args.subject c.args.program c.args.number c.args.label es eo p0 c.in-Program.is c.if-not-has_right.ensures by in
     let p2 = flow1 m t c.args.subject c.args.program c.args.number c.args.label es eo p1 c.if-not-flows.ensures in
     stop2 m t c.args.subject c.args.program c.args.number c.args.label es eo p2 c.if-not-flows-2.ensures
 
@@ -81,14 +81,14 @@ returns-in-Program-5 g c =
     let es = c.in-Some.ensures in
     let eo = c.in-Some-object.ensures in
     let by : ListedBy m t c.args.subject c.args.program c.args.number c.args.label es eo c.in-Some.s.now.user = elim c.if-not-listed.branch [
-      | then-not-listed+else-not-admin w ↦ by_admin m t c.args.subject c.args.program c.args.number c.args.label es eo c.is-admin-admin.ensures w.if-not-admin.false
-      | else-not-listed w ↦ by_list m t c.args.subject c.args.program c.args.number c.args.label es eo c.is-listed-listed.ensures w.if-not-listed.false
+      | then-not-listed+else-not-admin w ↦ by_admin m t c.args.subject c.args.program c.args.number c.args.label es eo c.is_admin-admin.ensures w.if-not-admin.false
+      | else-not-listed w ↦ by_list m t c.args.subject c.args.program c.args.number c.args.label es eo c.is_listed-listed.ensures w.if-not-listed.false
     ] in
-    let p0 = seated m t c.args.subject c.args.program c.args.number c.args.label es eo c.if-number-ge-SUBJECTS.false (subject_is_free t c.args.number (λ x. x.now) c.subject-2.result c.subject-2.ensures c.if-is-some.ensures) c.if-not-label.ensures in
-    let p1 = listed m t c.args.subject c.args.program c.args.number c.args.label es eo p0 c.in-Program.is c.if-not-has-right.ensures by in
+    let p0 = seated m t c.args.subject c.args.program c.args.number c.args.label es eo c.if-number-ge-SUBJECTS.false (subject_is_free t c.args.number (λ x. x.now) c.subject-2.result c.subject-2.ensures c.if-is_some.ensures) c.if-not-label.ensures in
+    let p1 = listed m t c.args.subject c.args.program c.args.number c.args.label es eo p0 c.in-Program.is c.if-not-has_right.ensures by in
     let p2 = flow1 m t c.args.subject c.args.program c.args.number c.args.label es eo p1 c.if-not-flows.ensures in
     let p3 = flow2 m t c.args.subject c.args.program c.args.number c.args.label es eo p2 c.if-not-flows-2.ensures in
-    outside m t c.args.subject c.args.program c.args.number c.args.label es eo p3 c.if-not-in-range.ensures
+    outside m t c.args.subject c.args.program c.args.number c.args.label es eo p3 c.if-not-in_range.ensures
 
 pub returns-in-Program-6 : goal.returns-in-Program-6
 returns-in-Program-6 g c =
@@ -97,20 +97,20 @@ returns-in-Program-6 g c =
     let es = c.in-Some.ensures in
     let eo = c.in-Some-object.ensures in
     let by : ListedBy m t c.args.subject c.args.program c.args.number c.args.label es eo c.in-Some.s.now.user = elim c.if-not-listed.branch [
-      | then-not-listed+else-not-admin w ↦ by_admin m t c.args.subject c.args.program c.args.number c.args.label es eo c.is-admin-admin.ensures w.if-not-admin.false
-      | else-not-listed w ↦ by_list m t c.args.subject c.args.program c.args.number c.args.label es eo c.is-listed-listed.ensures w.if-not-listed.false
+      | then-not-listed+else-not-admin w ↦ by_admin m t c.args.subject c.args.program c.args.number c.args.label es eo c.is_admin-admin.ensures w.if-not-admin.false
+      | else-not-listed w ↦ by_list m t c.args.subject c.args.program c.args.number c.args.label es eo c.is_listed-listed.ensures w.if-not-listed.false
     ] in
-    let p0 = seated m t c.args.subject c.args.program c.args.number c.args.label es eo c.if-number-ge-SUBJECTS.false (subject_is_free t c.args.number (λ x. x.now) c.subject-2.result c.subject-2.ensures c.if-is-some.ensures) c.if-not-label.ensures in
-    let p1 = listed m t c.args.subject c.args.program c.args.number c.args.label es eo p0 c.in-Program.is c.if-not-has-right.ensures by in
+    let p0 = seated m t c.args.subject c.args.program c.args.number c.args.label es eo c.if-number-ge-SUBJECTS.false (subject_is_free t c.args.number (λ x. x.now) c.subject-2.result c.subject-2.ensures c.if-is_some.ensures) c.if-not-label.ensures in
+    let p1 = listed m t c.args.subject c.args.program c.args.number c.args.label es eo p0 c.in-Program.is c.if-not-has_right.ensures by in
     let p2 = flow1 m t c.args.subject c.args.program c.args.number c.args.label es eo p1 c.if-not-flows.ensures in
     let p3 = flow2 m t c.args.subject c.args.program c.args.number c.args.label es eo p2 c.if-not-flows-2.ensures in
-    inside m t c.args.subject c.args.program c.args.number c.args.label es eo p3 c.if-not-in-range.ensures
+    inside m t c.args.subject c.args.program c.args.number c.args.label es eo p3 c.if-not-in_range.ensures
 
-pub returns-in-default-kind : goal.returns-in-default-kind
-returns-in-default-kind g c =
+pub returns-in_default-kind : goal.returns-in_default-kind
+returns-in_default-kind g c =
     let m = g.S.Scheme.meaning c.args.scheme.now in
     let t = c.args.t.now in
     let es = c.in-Some.ensures in
     let eo = c.in-Some-object.ensures in
-    let p0 = seated m t c.args.subject c.args.program c.args.number c.args.label es eo c.if-number-ge-SUBJECTS.false (subject_is_free t c.args.number (λ x. x.now) c.subject-2.result c.subject-2.ensures c.if-is-some.ensures) c.if-not-label.ensures in
-    no_program m t c.args.subject c.args.program c.args.number c.args.label es eo p0 c.in-default-kind.not-Program
+    let p0 = seated m t c.args.subject c.args.program c.args.number c.args.label es eo c.if-number-ge-SUBJECTS.false (subject_is_free t c.args.number (λ x. x.now) c.subject-2.result c.subject-2.ensures c.if-is_some.ensures) c.if-not-label.ensures in
+    no_program m t c.args.subject c.args.program c.args.number c.args.label es eo p0 c.in_default-kind.not-Program

@@ -7,7 +7,7 @@ returns-in-File g c =
     let t = c.args.t.now in
     let es = c.in-Some.ensures in
     let eo = c.in-Some-object.ensures in
-    write_no_right m t c.args.subject c.args.object es eo c.in-File.is c.if-not-has-right.ensures
+    write_no_right m t c.args.subject c.args.object es eo c.in-File.is c.if-not-has_right.ensures
 
 pub returns-in-File-2 : goal.returns-in-File-2
 returns-in-File-2 g c =
@@ -15,7 +15,7 @@ returns-in-File-2 g c =
     let t = c.args.t.now in
     let es = c.in-Some.ensures in
     let eo = c.in-Some-object.ensures in
-    write_stopped m t c.args.subject c.args.object es eo c.in-File.is c.if-not-has-right.ensures c.if-not-flows.ensures
+    write_stopped m t c.args.subject c.args.object es eo c.in-File.is c.if-not-has_right.ensures c.if-not-flows.ensures
 
 pub returns-in-File-3 : goal.returns-in-File-3
 returns-in-File-3 g c =
@@ -23,12 +23,12 @@ returns-in-File-3 g c =
     let t = c.args.t.now in
     let es = c.in-Some.ensures in
     let eo = c.in-Some-object.ensures in
-    write_granted m t c.args.subject c.args.object es eo c.in-File.is c.if-not-has-right.ensures c.if-not-flows.ensures
+    write_granted m t c.args.subject c.args.object es eo c.in-File.is c.if-not-has_right.ensures c.if-not-flows.ensures
 
-pub returns-in-default-kind : goal.returns-in-default-kind
-returns-in-default-kind g c =
+pub returns-in_default-kind : goal.returns-in_default-kind
+returns-in_default-kind g c =
     let m = g.S.Scheme.meaning c.args.scheme.now in
     let t = c.args.t.now in
     let es = c.in-Some.ensures in
     let eo = c.in-Some-object.ensures in
-    write_no_file m t c.args.subject c.args.object es eo c.in-default-kind.not-File
+    write_no_file m t c.args.subject c.args.object es eo c.in_default-kind.not-File

@@ -8,7 +8,7 @@ returns-in-Container g c =
     let t = c.args.t.now in
     let es = c.in-Some.ensures in
     let eo = c.in-Some-object.ensures in
-    no_right m t c.args.subject c.args.object es eo [] refl c.in-Container.is c.if-not-has-right.ensures
+    no_right m t c.args.subject c.args.object es eo [] refl c.in-Container.is c.if-not-has_right.ensures
 
 pub returns-in-Container-2 : goal.returns-in-Container-2
 returns-in-Container-2 g c =
@@ -16,7 +16,7 @@ returns-in-Container-2 g c =
     let t = c.args.t.now in
     let es = c.in-Some.ensures in
     let eo = c.in-Some-object.ensures in
-    stopped m t c.args.subject c.args.object es eo [] refl c.in-Container.is c.if-not-has-right.ensures c.if-not-flows.ensures
+    stopped m t c.args.subject c.args.object es eo [] refl c.in-Container.is c.if-not-has_right.ensures c.if-not-flows.ensures
 
 pub returns-in-Container-3 : goal.returns-in-Container-3
 returns-in-Container-3 g c =
@@ -24,12 +24,12 @@ returns-in-Container-3 g c =
     let t = c.args.t.now in
     let es = c.in-Some.ensures in
     let eo = c.in-Some-object.ensures in
-    mixed m t c.args.subject c.args.object es eo c.in-Container.is c.if-not-has-right.ensures c.if-not-flows.ensures
+    mixed m t c.args.subject c.args.object es eo c.in-Container.is c.if-not-has_right.ensures c.if-not-flows.ensures
 
-pub returns-in-default-kind : goal.returns-in-default-kind
-returns-in-default-kind g c =
+pub returns-in_default-kind : goal.returns-in_default-kind
+returns-in_default-kind g c =
     let m = g.S.Scheme.meaning c.args.scheme.now in
     let t = c.args.t.now in
     let es = c.in-Some.ensures in
     let eo = c.in-Some-object.ensures in
-    no_container m t c.args.subject c.args.object es eo [] refl c.in-default-kind.not-Container
+    no_container m t c.args.subject c.args.object es eo [] refl c.in_default-kind.not-Container

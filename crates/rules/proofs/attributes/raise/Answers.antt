@@ -9,13 +9,13 @@ returns-then-not-label g c =
     let eo = c.in-Some-object.ensures in
     no_label m t c.args.subject c.args.object c.args.label es eo c.if-not-label.ensures
 
-pub returns-then-not-has-right : goal.returns-then-not-has-right
-returns-then-not-has-right g c =
+pub returns-then-not-has_right : goal.returns-then-not-has_right
+returns-then-not-has_right g c =
     let m = g.S.Scheme.meaning c.args.scheme.now in
     let t = c.args.t.now in
     let es = c.in-Some.ensures in
     let eo = c.in-Some-object.ensures in
-    no_right m t c.args.subject c.args.object c.args.label es eo c.if-not-label.ensures c.if-not-has-right.ensures
+    no_right m t c.args.subject c.args.object c.args.label es eo c.if-not-label.ensures c.if-not-has_right.ensures
 
 pub returns-then-not-flows : goal.returns-then-not-flows
 returns-then-not-flows g c =
@@ -23,7 +23,7 @@ returns-then-not-flows g c =
     let t = c.args.t.now in
     let es = c.in-Some.ensures in
     let eo = c.in-Some-object.ensures in
-    stop1 m t c.args.subject c.args.object c.args.label es eo c.if-not-label.ensures c.if-not-has-right.ensures c.if-not-flows.ensures
+    stop1 m t c.args.subject c.args.object c.args.label es eo c.if-not-label.ensures c.if-not-has_right.ensures c.if-not-flows.ensures
 
 pub returns-then-not-flows-2 : goal.returns-then-not-flows-2
 returns-then-not-flows-2 g c =
@@ -31,25 +31,25 @@ returns-then-not-flows-2 g c =
     let t = c.args.t.now in
     let es = c.in-Some.ensures in
     let eo = c.in-Some-object.ensures in
-    stop2 m t c.args.subject c.args.object c.args.label es eo c.if-not-label.ensures c.if-not-has-right.ensures c.if-not-flows.ensures c.if-not-flows-2.ensures
+    stop2 m t c.args.subject c.args.object c.args.label es eo c.if-not-label.ensures c.if-not-has_right.ensures c.if-not-flows.ensures c.if-not-flows-2.ensures
 
-pub returns-then-not-held-over-at : goal.returns-then-not-held-over-at
-returns-then-not-held-over-at g c =
+pub returns-then-not-held_over_at : goal.returns-then-not-held_over_at
+returns-then-not-held_over_at g c =
     let m = g.S.Scheme.meaning c.args.scheme.now in
     let t = c.args.t.now in
     let es = c.in-Some.ensures in
     let eo = c.in-Some-object.ensures in
-    let p0 = flowing m t c.args.subject c.args.object c.args.label es eo c.if-not-label.ensures c.if-not-has-right.ensures c.if-not-flows.ensures c.if-not-flows-2.ensures in
-    over_fails m t c.args.subject c.args.object c.args.label es eo p0 c.if-not-held-over-at.ensures
+    let p0 = flowing m t c.args.subject c.args.object c.args.label es eo c.if-not-label.ensures c.if-not-has_right.ensures c.if-not-flows.ensures c.if-not-flows-2.ensures in
+    over_fails m t c.args.subject c.args.object c.args.label es eo p0 c.if-not-held_over_at.ensures
 
-pub returns-then-not-holds-inside : goal.returns-then-not-holds-inside
-returns-then-not-holds-inside g c =
+pub returns-then-not-holds_inside : goal.returns-then-not-holds_inside
+returns-then-not-holds_inside g c =
     let m = g.S.Scheme.meaning c.args.scheme.now in
     let t = c.args.t.now in
     let es = c.in-Some.ensures in
     let eo = c.in-Some-object.ensures in
-    let p0 = flowing m t c.args.subject c.args.object c.args.label es eo c.if-not-label.ensures c.if-not-has-right.ensures c.if-not-flows.ensures c.if-not-flows-2.ensures in
-    inside_fails m t c.args.subject c.args.object c.args.label es eo p0 c.if-not-holds-inside.ensures
+    let p0 = flowing m t c.args.subject c.args.object c.args.label es eo c.if-not-label.ensures c.if-not-has_right.ensures c.if-not-flows.ensures c.if-not-flows-2.ensures in
+    inside_fails m t c.args.subject c.args.object c.args.label es eo p0 c.if-not-holds_inside.ensures
 
 pub returns : goal.returns
 returns g c =
@@ -57,5 +57,5 @@ returns g c =
     let t = c.args.t.now in
     let es = c.in-Some.ensures in
     let eo = c.in-Some-object.ensures in
-    let p0 = flowing m t c.args.subject c.args.object c.args.label es eo c.if-not-label.ensures c.if-not-has-right.ensures c.if-not-flows.ensures c.if-not-flows-2.ensures in
-    raised m t c.args.subject c.args.object c.args.label es eo p0 c.if-not-held-over-at.ensures c.if-not-holds-inside.ensures
+    let p0 = flowing m t c.args.subject c.args.object c.args.label es eo c.if-not-label.ensures c.if-not-has_right.ensures c.if-not-flows.ensures c.if-not-flows-2.ensures in
+    raised m t c.args.subject c.args.object c.args.label es eo p0 c.if-not-held_over_at.ensures c.if-not-holds_inside.ensures

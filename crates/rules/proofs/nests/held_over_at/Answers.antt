@@ -13,8 +13,8 @@ returns-in-Some g c =
     let x = c.in-Some.x.now in
     let is = c.in-Some.ensures in
     let off = c.if-o-eq0.false in (
-      (λ e a b. c.held-above.ensures.0 e a (under_above t o x is off a b)),
-      λ all. c.held-above.ensures.1 (λ a b. all a (above_under t o x is off a b)),
+      (λ e a b. c.held_above.ensures.0 e a (under_above t o x is off a b)),
+      λ all. c.held_above.ensures.1 (λ a b. all a (above_under t o x is off a b)),
     )
 
 pub returns-in-None : goal.returns-in-None

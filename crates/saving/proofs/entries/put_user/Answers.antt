@@ -9,6 +9,6 @@ returns g c =
     let P = g.S.Sink.puts in
     took_as P _ _ (ap (λ m. m ∷ 1 ∷ u.number ∷ users.body u) c.user_map.ensures)
     (took_both P (c.user_map.result ∷ 1 ∷ u.number ∷ []) (users.body u) c.put.ensures
-    (took_both P (field 2 u.groups) (field 8 u.allow ++ (field 8 u.floor ++ field 8 u.top)) c.put-u16.ensures
-    (took_both P (field 8 u.allow) (field 8 u.floor ++ field 8 u.top) c.put-u64.ensures
-    (took_both P (field 8 u.floor) (field 8 u.top) c.put-u64-2.ensures c.put-u64-3.ensures))))
+    (took_both P (field 2 u.groups) (field 8 u.allow ++ (field 8 u.floor ++ field 8 u.top)) c.put_u16.ensures
+    (took_both P (field 8 u.allow) (field 8 u.floor ++ field 8 u.top) c.put_u64.ensures
+    (took_both P (field 8 u.floor) (field 8 u.top) c.put_u64-2.ensures c.put_u64-3.ensures))))

@@ -1,4 +1,4 @@
-use Rattle.std.proofs.Common.{◌≡◌, ℕ, ◌<◌, ◌≢◌, map, length, get_or, set, sym, refl, ap, ◌∙◌, arith, below_more}
+use Rattle.std.proofs.Common.{◌≢◌, map, get_or, sym, ◌∙◌, arith, below_more}
 use lib.ListN.{length-map, get_or-map}
 use Rattle.std.proofs.lemmas.List.{ext_get_or, length-set, get_or-set_same, get_or-set_other}
 use Rattle.roll.specs.Slots.{rights_of, rights_byte}

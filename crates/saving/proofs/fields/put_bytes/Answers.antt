@@ -14,7 +14,7 @@ loop-b-preserved g c =
     let bs = c.args.bytes.now in
     let i = c.loop-b.b-index in
     took_as g.S.Sink.puts _ _ (bytes_more bs i (omega arith) (omega arith))
-    (took_both g.S.Sink.puts (bytes_of (take i bs)) (field 1 (get_or bs i 0)) c.loop-b.invariant c.put-byte.ensures)
+    (took_both g.S.Sink.puts (bytes_of (take i bs)) (field 1 (get_or bs i 0)) c.loop-b.invariant c.put_byte.ensures)
 
 pub returns : goal.returns
 returns g c = took_as g.S.Sink.puts _ _ (ap bytes_of (take_all c.loop-b.b-index c.args.bytes.now (omega arith))) c.loop-b.invariant

@@ -4,7 +4,7 @@ use Rattle.records.specs.Records.{encode}
 use Rattle.saving.proofs.Taking.{took_none, took_both, took_as}
 use Rattle.saving.proofs.Walking.{slot_bytes, some_more, none_more}
 use Rattle.saving.proofs.saves.put_slots.Goals as goal
-use Rattle.saving.proofs.saves.put_slots.Goals.{in-Some, in-default}
+use Rattle.saving.proofs.saves.put_slots.Goals.{in-Some, in_default}
 
 pub loop-i-init : goal.loop-i-init
 loop-i-init g c = (took_none g.S.Sink.puts c.args.out.now, omega arith)
@@ -24,19 +24,19 @@ loop-i-preserved g c =
           let e = some_more r xs i w.in-Some.x h (at ∙ w.in-Some.is) in
           let is = ap encode w.record.ensures.is in
           simp w.out-is (
-            took_as P _ _ e (took_both P done (encode (r i w.in-Some.x)) c.loop-i.invariant.0 (took_as P _ _ is w.put-record.ensures)),
+            took_as P _ _ e (took_both P done (encode (r i w.in-Some.x)) c.loop-i.invariant.0 (took_as P _ _ is w.put_record.ensures)),
             omega (arith, ap length (sym e) ∙ length-append done (encode (r i w.in-Some.x)), ap length is, w.record.ensures.short, c.loop-i.invariant.1, more),
           ))
-      | in-default w ↦
-          (let e = none_more r xs i h (at ∙ w.in-default.is) in
+      | in_default w ↦
+          (let e = none_more r xs i h (at ∙ w.in_default.is) in
           simp w.out-is (took_as P _ _ e c.loop-i.invariant.0, omega (arith, ap length e, c.loop-i.invariant.1, more)))
     ]
 
 pub returns : goal.returns
 returns g c =
-    let at-end : c.loop-i.i ≡ length c.args.xs.now = omega arith in
+    let at_end : c.loop-i.i ≡ length c.args.xs.now = omega arith in
     let e = ap (slot_bytes g.T.Entry.written) (take_all c.loop-i.i c.args.xs.now c.loop-i-test.false) in
     record {
       put = took_as g.S.Sink.puts _ _ e c.loop-i.invariant.0;
-      short = omega (arith, ap length e, c.loop-i.invariant.1, ap (λ k. g.T.Entry.most * k) at-end);
+      short = omega (arith, ap length e, c.loop-i.invariant.1, ap (λ k. g.T.Entry.most * k) at_end);
     }

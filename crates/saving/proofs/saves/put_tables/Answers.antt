@@ -14,6 +14,6 @@ returns g c =
     let os = slots object_record 0 t.objects in
     let e = sym (joined_append encode us (gs ++ os) ∙ ap (λ l. slot_bytes user_record t.users ++ l) (joined_append encode gs os)) in
     record {
-      put = took_as P _ _ e (took_both P (slot_bytes user_record t.users) (slot_bytes group_record t.groups ++ slot_bytes object_record t.objects) c.put-slots.ensures.put (took_both P (slot_bytes group_record t.groups) (slot_bytes object_record t.objects) c.put-slots-2.ensures.put c.put-slots-3.ensures.put));
-      short = omega (arith, ap length (sym e), length-append (slot_bytes user_record t.users) (slot_bytes group_record t.groups ++ slot_bytes object_record t.objects), length-append (slot_bytes group_record t.groups) (slot_bytes object_record t.objects), c.put-slots.ensures.short, c.put-slots-2.ensures.short, c.put-slots-3.ensures.short);
+      put = took_as P _ _ e (took_both P (slot_bytes user_record t.users) (slot_bytes group_record t.groups ++ slot_bytes object_record t.objects) c.put_slots.ensures.put (took_both P (slot_bytes group_record t.groups) (slot_bytes object_record t.objects) c.put_slots-2.ensures.put c.put_slots-3.ensures.put));
+      short = omega (arith, ap length (sym e), length-append (slot_bytes user_record t.users) (slot_bytes group_record t.groups ++ slot_bytes object_record t.objects), length-append (slot_bytes group_record t.groups) (slot_bytes object_record t.objects), c.put_slots.ensures.short, c.put_slots-2.ensures.short, c.put_slots-3.ensures.short);
     }

@@ -1,5 +1,5 @@
-use Rattle.std.proofs.Common.{◌≡◌, ℕ, ◌+◌, ◌/◌, ◌<◌, ◌≤◌, List, length, set, sym, refl, ap, ◌∙◌, subst, arith, rules}
-use Rattle.bytes.specs.Bytes.{left, Took}
+use Rattle.std.proofs.Common.{◌≡◌, ℕ, length, set, refl, ap, ◌∙◌, subst, arith, rules}
+use Rattle.byte_cursor.specs.Bytes.{left, Took}
 use Rattle.stream.specs.Forms.{InForm, encode}
 use Rattle.stream.specs.Faults.{Faulty}
 use Rattle.monitor.specs.Decides.{Decided}
@@ -13,15 +13,15 @@ loop-next-init g c =
 pub bounds-answers-answered : goal.bounds-answers-answered
 bounds-answers-answered g c =
     let t = c.in-Some.ensures.next in
-    let k : InForm c.in-Ok.call × Took c.loop-next.c c.next-call.new.c (encode c.in-Ok.call) = rw c.in-Ok.is at t.1 in
+    let k : InForm c.in-Ok.call × Took c.loop-next.c c.next_call.new.c (encode c.in-Ok.call) = rw c.in-Ok.is at t.1 in
     let h = room c.loop-next.invariant.0 c.in-Ok.call k.1 c.requires in
     let same : length c.loop-next.answers ≡ length c.args.answers.now = c.loop-next.auto.answers in
     omega arith
 
-pub overflow-add-answered : goal.overflow-add-answered
-overflow-add-answered g c =
+pub overflow_add-answered : goal.overflow_add-answered
+overflow_add-answered g c =
     let t = c.in-Some.ensures.next in
-    let k : InForm c.in-Ok.call × Took c.loop-next.c c.next-call.new.c (encode c.in-Ok.call) = rw c.in-Ok.is at t.1 in
+    let k : InForm c.in-Ok.call × Took c.loop-next.c c.next_call.new.c (encode c.in-Ok.call) = rw c.in-Ok.is at t.1 in
     let h = room c.loop-next.invariant.0 c.in-Ok.call k.1 c.requires in
     search (rules, h)
 
@@ -29,11 +29,11 @@ pub loop-next-preserved : goal.loop-next-preserved
 loop-next-preserved g c =
     let t = c.in-Some.ensures.next in
     let x = c.in-Ok.call in
-    let k : InForm x × Took c.loop-next.c c.next-call.new.c (encode x) = rw c.in-Ok.is at t.1 in
+    let k : InForm x × Took c.loop-next.c c.next_call.new.c (encode x) = rw c.in-Ok.is at t.1 in
     let go = c.loop-next.invariant.0 in
     let h = room go x k.1 c.requires in
     let done = subst (λ s. Decided (g.S.Scheme.meaning s) c.loop-next.guard.tables x c.call-answer.result c.call-answer.new.self.tables) c.loop-next.invariant.1 c.call-answer.ensures.decided in (
-      going_more go x c.call-answer.result k.0 k.1 done h (ap (λ (v : ℕ). set c.loop-next.answers c.loop-next.answered v) c.number-of.ensures),
+      going_more go x c.call-answer.result k.0 k.1 done h (ap (λ (v : ℕ). set c.loop-next.answers c.loop-next.answered v) c.number_of.ensures),
       c.call-answer.ensures.scheme ∙ c.loop-next.invariant.1,
     )
 
@@ -45,4 +45,4 @@ returns-in-Err g c =
     record { ran = going_bad c.loop-next.invariant.0 c.in-Err.fault t.0 w; kept = c.loop-next.invariant.0.kept; scheme = c.loop-next.invariant.1 }
 
 pub returns : goal.returns
-returns g c = record { ran = going_done c.loop-next.invariant.0 c.in-default.ensures.next.0; kept = c.loop-next.invariant.0.kept; scheme = c.loop-next.invariant.1 }
+returns g c = record { ran = going_done c.loop-next.invariant.0 c.in_default.ensures.next.0; kept = c.loop-next.invariant.0.kept; scheme = c.loop-next.invariant.1 }

@@ -1,5 +1,5 @@
 use Rattle.std.proofs.Common.{◌≡◌, length}
-use Rattle.bytes.specs.Bytes.{left}
+use Rattle.byte_cursor.specs.Bytes.{left}
 use Rattle.session.proofs.Goings.{Going}
 use Rattle.session.proofs.runs.answer_all.Given as goal
 

@@ -8,19 +8,19 @@ use Rattle.session.proofs.runs.run.Goals as goal
 pub returns : goal.returns
 returns g c =
     let m = g.S.Scheme.meaning c.args.guard.now.scheme in
-    let told = c.in-default.ensures in
+    let told = c.in_default.ensures in
     let start = c.load.new.self.tables in
-    let r = c.answer-all.result in
-    let last = c.answer-all.new in
+    let r = c.answer_all.result in
+    let last = c.answer_all.new in
     record {
       ran = from_roll m c.args.roll.now c.args.calls.now start r.answered r.end c.args.answers.now last.answers c.args.guard.now.tables last.guard.tables
           c.if-answers-calls.false
           told.loads
           (subst (λ s. AllSecure (g.S.Scheme.meaning s) start) told.scheme told.secure)
-          (subst (λ s. Stretch (g.S.Scheme.meaning s) start c.args.calls.now r.answered r.end c.args.answers.now last.answers last.guard.tables) told.scheme c.answer-all.ensures.ran);
+          (subst (λ s. Stretch (g.S.Scheme.meaning s) start c.args.calls.now r.answered r.end c.args.answers.now last.answers last.guard.tables) told.scheme c.answer_all.ensures.ran);
       one = one m;
-      kept = λ _. subst (λ s. Kept (g.S.Scheme.meaning s) last.guard.tables) told.scheme (c.answer-all.ensures.kept told.kept);
-      scheme = c.answer-all.ensures.scheme ∙ told.scheme;
+      kept = λ _. subst (λ s. Kept (g.S.Scheme.meaning s) last.guard.tables) told.scheme (c.answer_all.ensures.kept told.kept);
+      scheme = c.answer_all.ensures.scheme ∙ told.scheme;
     }
 
 pub returns-then-answers-calls : goal.returns-then-answers-calls

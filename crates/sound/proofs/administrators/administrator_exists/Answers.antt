@@ -18,11 +18,11 @@ there : (o : Option User) → (unwrap_or o blank_user).admin ≡ true → is_som
 there None e = absurd (false≢true e)
 there (Some x) e = refl
 
-pub returns-then-is-admin : goal.returns-then-is-admin
-returns-then-is-admin c =
+pub returns-then-is_admin : goal.returns-then-is_admin
+returns-then-is_admin c =
     let u = c.loop-u.u in
-    let admin : (user c.args.t.now u).admin ≡ true = sym c.if-is-admin.ensures in
+    let admin : (user c.args.t.now u).admin ≡ true = sym c.if-is_admin.ensures in
     yes (u, there (user_at c.args.t.now u) admin, admin)
 
 pub loop-u-preserved : goal.loop-u-preserved
-loop-u-preserved c = more c.loop-u.u c.loop-u.invariant (sym c.is-admin.ensures ∙ c.if-is-admin.false)
+loop-u-preserved c = more c.loop-u.u c.loop-u.invariant (sym c.is_admin.ensures ∙ c.if-is_admin.false)

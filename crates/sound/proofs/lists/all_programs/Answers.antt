@@ -8,6 +8,6 @@ returns c =
     every_holds c.loop-o.o c.loop-o.invariant
     (λ k far in-it. absurd (none_past c.args.set.0 64 k (omega arith) (omega arith) in-it))
 
-pub returns-then-not-is-program : goal.returns-then-not-is-program
-returns-then-not-is-program c =
-    no (λ all. not_from_Decides c.is-program.result c.is-program.ensures c.if-not-is-program.true (all c.loop-o.o (sym c.if-contains.ensures)))
+pub returns-then-not-is_program : goal.returns-then-not-is_program
+returns-then-not-is_program c =
+    no (λ all. not_from_Decides c.is_program.result c.is_program.ensures c.if-not-is_program.true (all c.loop-o.o (sym c.if-contains.ensures)))

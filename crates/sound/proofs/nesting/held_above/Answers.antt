@@ -7,43 +7,43 @@ use Rattle.sound.proofs.Walk.{left_on, left_none}
 use Rattle.sound.proofs.nesting.held_above.Goals as goal
 
 pub loop-step-init : goal.loop-step-init
-loop-step-init g c = (c.held-at.ensures.0 c.if-not-held-at.false, (λ a b. let s = short_way b in inr (s.0, (let h = s.1 in omega arith))), λ a b. b)
+loop-step-init g c = (c.held_at.ensures.0 c.if-not-held_at.false, (λ a b. let s = short_way b in inr (s.0, (let h = s.1 in omega arith))), λ a b. b)
 
-pub returns-in-default : goal.returns-in-default
-returns-in-default g c =
+pub returns-in_default : goal.returns-in_default
+returns-in_default g c =
     let i = c.loop-step.invariant in
-    yes (left_none (g.S.Scheme.meaning c.args.scheme.now) c.args.t.now c.args.l c.args.p c.loop-step.at _ i.0 i.1 (λ a w. empty_off c.in-default.ensures w.0))
+    yes (left_none (g.S.Scheme.meaning c.args.scheme.now) c.args.t.now c.args.l c.args.p c.loop-step.at _ i.0 i.1 (λ a w. empty_off c.in_default.ensures w.0))
 
 pub returns-then-at-eq0 : goal.returns-then-at-eq0
 returns-then-at-eq0 g c =
     let i = c.loop-step.invariant in
     yes (left_none (g.S.Scheme.meaning c.args.scheme.now) c.args.t.now c.args.l c.args.p c.loop-step.at _ i.0 i.1 (λ a w. below_off_root w.0 c.if-at-eq0.true))
 
-pub returns-then-not-held-at-2 : goal.returns-then-not-held-at-2
-returns-then-not-held-at-2 g c =
+pub returns-then-not-held_at-2 : goal.returns-then-not-held_at-2
+returns-then-not-held_at-2 g c =
     let t = c.args.t.now in
     let at = c.loop-step.at in
     let o = c.in-Some.object.now in
     let is : Some o ≡ object_at t at = c.in-Some.ensures in
     let up = climb_found t.objects at o is c.if-at-eq0.false o.parent refl in
-    no (λ all. both_ways c.held-at-in-loop-step.result c.if-not-held-at-2.true (c.held-at-in-loop-step.ensures.1 (all o.parent (inr (c.loop-step.invariant.2 o.parent up)))))
+    no (λ all. both_ways c.held_at-in-loop-step.result c.if-not-held_at-2.true (c.held_at-in-loop-step.ensures.1 (all o.parent (inr (c.loop-step.invariant.2 o.parent up)))))
 
 pub loop-step-preserved : goal.loop-step-preserved
 loop-step-preserved g c =
     let t = c.args.t.now in
     let m = g.S.Scheme.meaning c.args.scheme.now in
     let at = c.loop-step.at in
-    let step = c.loop-step.-step in
+    let step = c.loop-step._step in
     let o = c.in-Some.object.now in
     let is : Some o ≡ object_at t at = c.in-Some.ensures in
     let i = c.loop-step.invariant in (
       i.0,
-      left_on m t c.args.l c.args.p at o is (length t.objects - step) (length t.objects - (step + 1)) (omega arith) (c.held-at-in-loop-step.ensures.0 c.if-not-held-at-2.false) i.1,
+      left_on m t c.args.l c.args.p at o is (length t.objects - step) (length t.objects - (step + 1)) (omega arith) (c.held_at-in-loop-step.ensures.0 c.if-not-held_at-2.false) i.1,
       λ a b. i.2 a (climb_back t.objects at o is c.if-at-eq0.false a b),
     )
 
 pub returns : goal.returns
 returns g c =
     let i = c.loop-step.invariant in
-    let k = length c.args.t.now.objects - c.loop-step.-step in
+    let k = length c.args.t.now.objects - c.loop-step._step in
     yes (left_none (g.S.Scheme.meaning c.args.scheme.now) c.args.t.now c.args.l c.args.p c.loop-step.at k i.0 i.1 (λ a w. no_steps k (omega arith) w))

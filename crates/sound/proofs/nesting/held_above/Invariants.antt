@@ -6,4 +6,4 @@ use Rattle.sound.proofs.nesting.held_above.Given as goal
 abbrev pub invariant-loop-step : goal.invariant-loop-step
 invariant-loop-step g l =
     let m = g.S.Scheme.meaning l.scheme in
-    HeldAt m l.t l.l l.p × Left m l.t l.l l.p l.at (length l.t.objects - l.-step) × ((a : ℕ) → Under l.t l.at a → Under l.t l.p a)
+    HeldAt m l.t l.l l.p × Left m l.t l.l l.p l.at (length l.t.objects - l._step) × ((a : ℕ) → Under l.t l.at a → Under l.t l.p a)

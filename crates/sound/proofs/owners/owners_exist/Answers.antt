@@ -15,8 +15,8 @@ returns c =
 not_owned : (t : Tables) (o : ℕ) (r : Bool) → Decides r (has_object t o ≡ true → (has_user t (object t o).owner ≡ true) × HoldersThere t (object t o).rights) → r ≡ false → Owned t → ⊥
 not_owned t o r said off owned = not_from_Decides r said off (λ h. (owned.owners o h, owned.holders o h))
 
-pub returns-then-not-is-owned : goal.returns-then-not-is-owned
-returns-then-not-is-owned c = no (not_owned c.args.t.now c.loop-o.o c.is-owned.result c.is-owned.ensures c.if-not-is-owned.true)
+pub returns-then-not-is_owned : goal.returns-then-not-is_owned
+returns-then-not-is_owned c = no (not_owned c.args.t.now c.loop-o.o c.is_owned.result c.is_owned.ensures c.if-not-is_owned.true)
 
 pub loop-o-preserved : goal.loop-o-preserved
-loop-o-preserved c = more c.loop-o.o c.loop-o.invariant (c.is-owned.ensures.0 c.if-not-is-owned.false)
+loop-o-preserved c = more c.loop-o.o c.loop-o.invariant (c.is_owned.ensures.0 c.if-not-is_owned.false)

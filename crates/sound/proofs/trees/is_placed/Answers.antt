@@ -28,7 +28,7 @@ module _ (t : Tables) (o : ℕ) (x : Object) (is : Some x ≡ object_at t o) whe
 
 pub returns-then-o-eq0 : goal.returns-then-o-eq0
 returns-then-o-eq0 c =
-    let kind = c.is-container.ensures.0 c.if-is-container.true in
+    let kind = c.is_container.ensures.0 c.if-is_container.true in
     let root = c.if-o-eq0.true in
     ((λ _ _. placed c.args.t.now c.args.o c.in-Some.x.now c.in-Some.ensures kind (inl root)), λ _. eq-eqb c.args.o 0 root)
 
@@ -38,13 +38,13 @@ returns-else-o-eq0 c =
     let o = c.args.o in
     let x = c.in-Some.x.now in
     let is = c.in-Some.ensures in
-    let kind = c.is-container.ensures.0 c.if-is-container.true in
-    ((λ e _. placed t o x is kind (inr (c.lies-under.ensures.0 e))), λ p. c.lies-under.ensures.1 (way_of t o x is p c.if-o-eq0.false))
+    let kind = c.is_container.ensures.0 c.if-is_container.true in
+    ((λ e _. placed t o x is kind (inr (c.lies_under.ensures.0 e))), λ p. c.lies_under.ensures.1 (way_of t o x is p c.if-o-eq0.false))
 
-pub returns-else-is-container : goal.returns-else-is-container
-returns-else-is-container c = (
-  (λ e. absurd (both_ways c.is-container.result c.if-is-container.false e)),
-  λ p. c.is-container.ensures.1 (parent_of c.args.t.now c.args.o c.in-Some.x.now c.in-Some.ensures p),
+pub returns-else-is_container : goal.returns-else-is_container
+returns-else-is_container c = (
+  (λ e. absurd (both_ways c.is_container.result c.if-is_container.false e)),
+  λ p. c.is_container.ensures.1 (parent_of c.args.t.now c.args.o c.in-Some.x.now c.in-Some.ensures p),
 )
 
 pub returns-in-None : goal.returns-in-None

@@ -7,7 +7,7 @@ use Rattle.tables.specs.Sets.{without_element}
 use Rattle.tables.specs.declared.types.User.{User}
 use Rattle.tables.specs.Changes.{unlisting}
 use Rattle.tables.proofs.changes.strike.Goals as goal
-use Rattle.tables.proofs.changes.strike.Goals.{in-Some, in-default}
+use Rattle.tables.proofs.changes.strike.Goals.{in-Some, in_default}
 
 -- one more slot is changed
 over : (f : Option User → Option User) (xs ys : List (Option User)) (i : ℕ) (v : Option User) → i < length xs → i < length ys
@@ -26,7 +26,7 @@ loop-place-preserved c =
           let off : w.remove.new.self ≡ record { 0 = without_element x.allowed.0 c.args.o } = λ k. record { 0 = w.remove.ensures.value k } in
           w.users-is ∙ over f xs ys i _ (omega arith) (omega arith) c.loop-place.invariant
           (ap (λ (s : ObjectSet). Some (record { admin = x.admin; groups = x.groups; allowed = s; floor = x.floor; top = x.top })) off ∙ sym (ap f w.in-Some.is)))
-      | in-default w ↦ w.users-is ∙ over f xs ys i _ (omega arith) (omega arith) c.loop-place.invariant (w.in-default.is ∙ sym (ap f w.in-default.is))
+      | in_default w ↦ w.users-is ∙ over f xs ys i _ (omega arith) (omega arith) c.loop-place.invariant (w.in_default.is ∙ sym (ap f w.in_default.is))
     ]
 
 pub returns : goal.returns

@@ -33,7 +33,7 @@ given roles g r v rs b e f h = h ∙ ap (λ (x : Rights). has x.0 (bit_of r)) (f
 pub returns-then-contains-3 : goal.returns-then-contains-3
 returns-then-contains-3 c =
     let g = c.loop-g.g in
-    let role = given c.args.roles.now g c.args.right c.slot.result c.unwrap-or.result true c.slot.ensures c.unwrap-or.ensures c.if-contains-3.ensures in
+    let role = given c.args.roles.now g c.args.right c.slot.result c.unwrap_or.result true c.slot.ensures c.unwrap_or.ensures c.if-contains-3.ensures in
     ((λ _. (g, sym c.if-contains.ensures, sym c.if-contains-2.ensures, sym role)), λ _. refl)
 
 pub loop-g-preserved : goal.loop-g-preserved
@@ -45,7 +45,7 @@ loop-g-preserved c =
     let g = c.loop-g.g in
     let Off : ℕ → Type 0 = λ k. has mine k ≡ true → has its k ≡ true → Gives (unwrap_or (get_or roles k None) no_rights) r → ⊥ in
     below_more Off g c.loop-g.invariant (elim c.else-contains.branch [
-      | else-contains-via-then-contains+then-contains-2+else-contains-3 w ↦ λ m i e. both_ways _ w.if-contains-3.false (given roles g r w.slot.result w.unwrap-or.result w.contains-then-contains-2.result w.slot.ensures w.unwrap-or.ensures w.contains-then-contains-2.ensures ∙ e)
+      | else-contains-via-then-contains+then-contains-2+else-contains-3 w ↦ λ m i e. both_ways _ w.if-contains-3.false (given roles g r w.slot.result w.unwrap_or.result w.contains-then-contains-2.result w.slot.ensures w.unwrap_or.ensures w.contains-then-contains-2.ensures ∙ e)
       | else-contains-via-then-contains+else-contains-2 w ↦ λ m i e. both_ways _ w.if-contains-2.false (w.contains-then-contains.ensures ∙ i)
       | else-contains-via-else-contains w ↦ λ m i e. both_ways _ w.if-contains.false (c.contains.ensures ∙ m)
     ])

@@ -12,5 +12,5 @@ bounds-table-i g c = c.if-i-table.true
 pub returns-then-i-table : goal.returns-then-i-table
 returns-then-i-table g c = refl
 
-pub offset-bounds-table-i : goal.offset-bounds-table-i
-offset-bounds-table-i g c = search scaled_Fits
+pub offset_bounds-table-i : goal.offset_bounds-table-i
+offset_bounds-table-i g c = search scaled_Fits

@@ -6,8 +6,8 @@ use Rattle.tables.proofs.ways.climbs.Goals as goal
 pub loop-step-init : goal.loop-step-init
 loop-step-init c = ((λ b. let s = short_way b in (s.0, (let h = s.1 in omega arith))), λ b. b)
 
-pub returns-in-default : goal.returns-in-default
-returns-in-default c = ((λ e. absurd (false≢true e)), λ b. absurd (empty_off c.in-default.ensures (c.loop-step.invariant.0 b).0))
+pub returns-in_default : goal.returns-in_default
+returns-in_default c = ((λ e. absurd (false≢true e)), λ b. absurd (empty_off c.in_default.ensures (c.loop-step.invariant.0 b).0))
 
 pub returns-then-at-eq0 : goal.returns-then-at-eq0
 returns-then-at-eq0 c = ((λ e. absurd (false≢true e)), λ b. absurd (below_off_root (c.loop-step.invariant.0 b).0 c.if-at-eq0.true))
@@ -23,11 +23,11 @@ pub loop-step-preserved : goal.loop-step-preserved
 loop-step-preserved c =
     let os = c.args.objects.now in
     let at = c.loop-step.at in
-    let step = c.loop-step.-step in
+    let step = c.loop-step._step in
     let is : Some c.in-Some.object.now ≡ get_or os at None = c.in-Some.ensures in (
       (λ b. climb_on os at c.in-Some.object.now is c.args.p (length os - step) (length os - (step + 1)) (omega arith) c.if-object-p.false (c.loop-step.invariant.0 b)),
       λ b. c.loop-step.invariant.1 (climb_back os at c.in-Some.object.now is c.if-at-eq0.false c.args.p b),
     )
 
 pub returns : goal.returns
-returns c = ((λ e. absurd (false≢true e)), λ b. absurd (no_steps (length c.args.objects.now - c.loop-step.-step) (omega arith) (c.loop-step.invariant.0 b)))
+returns c = ((λ e. absurd (false≢true e)), λ b. absurd (no_steps (length c.args.objects.now - c.loop-step._step) (omega arith) (c.loop-step.invariant.0 b)))

@@ -3,15 +3,15 @@ use Rattle.std.proofs.Common.{string_bytes}
 use Rattle.transcript.proofs.Written.{ran_long, ran_within, printed}
 use Rattle.transcript.proofs.runs.tell.Goals as goal
 
-pub slice-bounds-answer-lines-end : goal.slice-bounds-answer-lines-end
-slice-bounds-answer-lines-end g c =
+pub slice_bounds-answer_lines-end : goal.slice_bounds-answer_lines-end
+slice_bounds-answer_lines-end g c =
     let m = g.S.Scheme.meaning c.args.guard.now.scheme in
     let r = c.run-outcome.result in
     let last = c.run-outcome.new in
     ran_within m c.args.roll.now c.args.calls.now r.answered r.end c.args.answers.now last.answers c.args.guard.now.tables last.guard.tables c.run-outcome.ensures.ran
 
-pub slice-bounds-answer-lines-end-2 : goal.slice-bounds-answer-lines-end-2
-slice-bounds-answer-lines-end-2 g c =
+pub slice_bounds-answer_lines-end-2 : goal.slice_bounds-answer_lines-end-2
+slice_bounds-answer_lines-end-2 g c =
     let m = g.S.Scheme.meaning c.args.guard.now.scheme in
     let r = c.run-outcome.result in
     let last = c.run-outcome.new in
@@ -23,6 +23,6 @@ returns g c =
     let r = c.run-outcome.result in
     let last = c.run-outcome.new in
     IfOk-weaker c.format.result _ _
-    (λ s h. printed m c.args.roll.now c.args.calls.now r.answered r.end c.args.answers.now last.answers c.args.guard.now.tables last.guard.tables (string_bytes c.in-ok-lines.lines) (string_bytes c.in-ok-last.last) (string_bytes s)
-    c.run-outcome.ensures.ran c.requires c.in-ok-lines.ensures c.in-ok-last.ensures h)
+    (λ s h. printed m c.args.roll.now c.args.calls.now r.answered r.end c.args.answers.now last.answers c.args.guard.now.tables last.guard.tables (string_bytes c.in_ok-lines.lines) (string_bytes c.in_ok-last.last) (string_bytes s)
+    c.run-outcome.ensures.ran c.requires c.in_ok-lines.ensures c.in_ok-last.ensures h)
     c.format.ensures.ok

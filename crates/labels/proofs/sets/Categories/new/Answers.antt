@@ -1,4 +1,4 @@
-use Rattle.std.proofs.Common.{◌≡◌, ℕ, sym, ap, subst, rules}
+use Rattle.std.proofs.Common.{ℕ, ap, subst}
 use Rattle.labels.specs.Schemes.{categories, ByCategory}
 use Rattle.labels.proofs.Each.{by_category}
 use Rattle.labels.proofs.sets.Categories.new.Goals as goal

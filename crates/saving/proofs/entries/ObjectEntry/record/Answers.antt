@@ -10,11 +10,11 @@ returns c =
       short = object_short (record {
         number = c.args.number;
         parent = o.parent;
-        kind = c.kind-number.result;
+        kind = c.kind_number.result;
         owner = o.owner;
         label = o.label;
         mixed = o.mixed;
         groups = o.groups.0;
-        rights = c.rights-bytes.result;
-      }) c.rights-bytes.ensures.long;
+        rights = c.rights_bytes.result;
+      }) c.rights_bytes.ensures.long;
     }

@@ -4,7 +4,7 @@ use Rattle.saving.proofs.sinks.WriterSink.put.Goals as goal
 
 pub returns-then-xs-self : goal.returns-then-xs-self
 returns-then-xs-self c a ws h =
-    let e = wrote_part c.args.self.now.bytes.now c.args.self.now.place c.args.xs.now c.copy-from-slice.new.self c.copy-from-slice.ensures.after in
+    let e = wrote_part c.args.self.now.bytes.now c.args.self.now.place c.args.xs.now c.copy_from_slice.new.self c.copy_from_slice.ensures.after in
     written_more a c.args.self.now _ ws c.args.xs.now h
     (record {
       held = refl;

@@ -6,6 +6,6 @@ returns-then-a-p c = ((λ _. inl c.if-a-p.true), λ _. eq-eqb c.args.a c.args.p 
 
 pub returns-else-a-p : goal.returns-else-a-p
 returns-else-a-p c = (
-  (λ e. inr (c.lies-under.ensures.0 e)),
-  λ s. elim s [ inl e ↦ absurd (c.if-a-p.false e) | inr b ↦ c.lies-under.ensures.1 b ],
+  (λ e. inr (c.lies_under.ensures.0 e)),
+  λ s. elim s [ inl e ↦ absurd (c.if-a-p.false e) | inr b ↦ c.lies_under.ensures.1 b ],
 )

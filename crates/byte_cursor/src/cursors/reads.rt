@@ -1,6 +1,6 @@
 //! What a cursor reads.
 ghost use Rattle.std.specs.Prelude.{◌≡◌, [], length, if◌then◌else◌, MatchResult, ◌==◌};
-ghost use Rattle.bytes.specs.Bytes.{left, Took, Short, Number, Field};
+ghost use Rattle.byte_cursor.specs.Bytes.{left, Took, Short, Number, Field};
 
 use super::{Cursor, CursorFault};
 

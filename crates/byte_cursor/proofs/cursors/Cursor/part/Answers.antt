@@ -1,6 +1,6 @@
-use Rattle.std.proofs.Common.{◌+◌, ◌≤◌, length, sym, refl, ap, arith, length-drop, rules}
-use Rattle.bytes.proofs.Cuts.{cut_length, cut_split}
-use Rattle.bytes.proofs.cursors.Cursor.part.Goals as goal
+use Rattle.std.proofs.Common.{◌+◌, ◌≤◌, length, sym, refl, ap, arith, length-drop}
+use Rattle.byte_cursor.proofs.Cuts.{cut_length, cut_split}
+use Rattle.byte_cursor.proofs.cursors.Cursor.part.Goals as goal
 
 pub returns-then-self-n : goal.returns-then-self-n
 returns-then-self-n c = record { same = refl; few = simp length-drop (omega arith); fault = refl }

@@ -1,7 +1,7 @@
 -- What a cursor has left, and what a read takes from it.
-use Rattle.std.specs.Prelude.{◌≡◌, ℕ, zero, suc, ◌+◌, ◌-◌, ◌*◌, ◌/◌, ◌%◌, ◌^◌, ◌<◌, ◌≤◌, Bool, true, false, cond, List, [], ◌∷◌, ◌++◌, length, get_or, drop}
-use Rattle.bytes.specs.declared.cursors.Cursor.{Cursor}
-use Rattle.bytes.specs.declared.cursors.CursorFault.{CursorFault}
+use Rattle.std.specs.Prelude.{◌≡◌, ℕ, zero, suc, ◌+◌, ◌/◌, ◌%◌, ◌^◌, ◌<◌, Bool, false, cond, List, [], ◌∷◌, ◌++◌, length, drop}
+use Rattle.byte_cursor.specs.declared.cursors.Cursor.{Cursor}
+use Rattle.byte_cursor.specs.declared.cursors.CursorFault.{CursorFault}
 
 -- v in n bytes, little-endian
 abbrev pub le : ℕ → ℕ → List ℕ

@@ -1,4 +1,6 @@
 //! Bytes read one after another, in little-endian.
+#![tactic(auto)]
+
 mod cursors;
 
 pub use cursors::{Cursor, CursorFault};
