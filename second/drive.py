@@ -1,9 +1,9 @@
 #!/usr/bin/env python3
 """Random rolls and random call streams, run by the built programs and by second.py, and compared.
 
-    drive.py BINFOLDER CASES [SEED]
+    drive.py CRATES CASES [SEED]
 
-Rolls are mostly sound, some damaged. Calls follow the moving state, so that every answer comes up. It prints how often each answer and
+CRATES is the folder `crates` of a checkout in which both programs were built: each lies in its crate's out/. Rolls are mostly sound, some damaged. Calls follow the moving state, so that every answer comes up. It prints how often each answer and
 fault came up, and ends with status 1 at the first difference, which it leaves in the folder `difference`.
 """
 import collections
@@ -167,7 +167,7 @@ def main():
         for i in range(count):
             program, roll, calls = case(rng)
             want = second.run(SCHEMES[program][0], roll, calls)
-            got = run_program(os.path.abspath(os.path.join(folder, program)), roll, calls, place)
+            got = run_program(os.path.abspath(os.path.join(folder, program, 'out', program)), roll, calls, place)
             if want != got:
                 os.makedirs('difference', exist_ok=True)
                 for name, data in (('roll', roll), ('calls', calls)):
