@@ -22,7 +22,7 @@ use Rattle.calls.specs.declared.types.Call.{Call}
 use Rattle.calls.specs.declared.types.Call.TheVariants.{Enter, Launch, Leave, Read, Write, Create, Delete, Move, Raise, Mix, Unmix, Rights, Allow, Bar}
 use Rattle.calls.specs.Calls.{asks, AllFine, Answer}
 use Rattle.calls.specs.Effects.{created, after}
-use Rattle.histories.specs.Carries.{a_subject, anObject, Ends}
+use Rattle.histories.specs.Carries.{a_subject, an_object, Ends}
 use Rattle.histories.specs.Kept.{Peopled}
 use Rattle.histories.proofs.Wholes.{Loaded, Whole}
 use Rattle.histories.proofs.Outcome.{outcome, outcome_effect}
@@ -43,7 +43,7 @@ AllProper t os = (x : ℕ) → is_some (get_or os x None) ≡ true → Proper t 
 -- the labels of sound tables are labels
 pub labels_stand : (m : Meaning) (t : Tables) → Sound m t → LabelsStand m t
 labels_stand m t sound a_subject n = (sound Labels).subjects n
-labels_stand m t sound anObject n = (sound Labels).objects n
+labels_stand m t sound an_object n = (sound Labels).objects n
 
 -- a new object gives no right
 none_set : (n u : ℕ) → (get_or (replicate n no_rights) u no_rights).0 ≡ 0
@@ -182,12 +182,12 @@ module _ (m : Meaning) (laws : Lawful m) (t : Tables) where
       (λ a b. nest a o b)
   nest_on size ok tree nest (Unmix s o) fine =
       nest_edit m t.objects o (remixed false (object t o)) fine.1.0 refl refl nest
-      (λ _. laws.holding.itself (object t o).label (ok anObject o fine.1.0))
+      (λ _. laws.holding.itself (object t o).label (ok an_object o fine.1.0))
       (λ x b plain. fine.1.1.1.1.1.0 x b)
       (λ a b. nest a o b)
   nest_on size ok tree nest (Rights s o u mask) fine =
       nest_edit m t.objects o (regranted u (record { 0 = mask }) (object t o)) fine.1.0 refl refl nest
-      (λ _. laws.holding.itself (object t o).label (ok anObject o fine.1.0))
+      (λ _. laws.holding.itself (object t o).label (ok an_object o fine.1.0))
       (λ x b plain. nest o x b (fine.1.0, plain.1, plain.2))
       (λ a b. nest a o b)
   nest_on size ok tree nest (Allow s u o) fine = nest
@@ -203,7 +203,7 @@ module _ (m : Meaning) (laws : Lawful m) (t : Tables) where
   kinded_same : (o x : ℕ) → o ≡ x → (object t o).kind ≡ (object t x).kind
   kinded_same o x e = ap (λ (w : ℕ). (object t w).kind) e
 
-  kinded_on : (c : Call) → AllFine (asks m t c) → (x : ℕ) → has_object t x ≡ true → (Ends c anObject x → ⊥) → Kinded (outcome t c) x
+  kinded_on : (c : Call) → AllFine (asks m t c) → (x : ℕ) → has_object t x ≡ true → (Ends c an_object x → ⊥) → Kinded (outcome t c) x
   kinded_on (Enter u n l) fine x h on = (h, refl)
   kinded_on (Launch s o n l) fine x h on = (h, refl)
   kinded_on (Leave s) fine x h on = (h, refl)
@@ -285,7 +285,7 @@ whole_on m laws t c w fine = record {
     labelled = record {
       users = λ u h. subst₂ (λ (x y : ℕ). (m.label x ≡ true) × (m.label y ≡ true) × (m.flow x y ≡ true)) (sym (kept u).floor) (sym (kept u).top) ((sound Labels).users u (stood u h));
       subjects = λ s. labels a_subject s;
-      objects = λ o. labels anObject o;
+      objects = λ o. labels an_object o;
     }
 
     rooted : Rooted (outcome t c)

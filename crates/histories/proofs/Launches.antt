@@ -10,7 +10,7 @@ use Rattle.sound.specs.declared.clauses.Clause.TheVariants.{Lists}
 use Rattle.calls.specs.declared.types.Call.{Call}
 use Rattle.calls.specs.declared.types.Call.TheVariants.{Launch, Write, Allow, Bar}
 use Rattle.calls.specs.Calls.{asks, AllFine}
-use Rattle.histories.specs.Carries.{Sort, a_subject, anObject, present, Ends}
+use Rattle.histories.specs.Carries.{Sort, a_subject, an_object, present, Ends}
 use Rattle.histories.proofs.Wholes.{Loaded}
 use Rattle.histories.specs.Runs.{call_at, Run, Party, Granted, Stands, Unbarred, OnList, by_roll, by_allow}
 use Rattle.histories.specs.Promises.{LaunchesListed, ProgramsUnwritten}
@@ -53,7 +53,7 @@ module _ {m : Meaning} {roll : Tables} {calls : List Call} {answers : List ℕ} 
       where
         go : (s : Sort) → present roll s n ≡ true → Standing 0 s n
         go a_subject e = absurd (false≢true (sym (loaded.alone n) ∙ e))
-        go anObject e = (0, record { begun = (refl, e); before = zero-le; unended = λ j a b. absurd (not-suc-le-zero b) })
+        go an_object e = (0, record { begun = (refl, e); before = zero-le; unended = λ j a b. absurd (not-suc-le-zero b) })
     has_stands (suc k) h s n =
         let before : present (r.tables k) s n ≡ true → Standing k s n = has_stands k (omega arith) s n in
         by_step r (λ t. present t s n ≡ true → Standing (suc k) s n) k h
@@ -68,14 +68,14 @@ module _ {m : Meaning} {roll : Tables} {calls : List Call} {answers : List ℕ} 
 
     -- the user's list holds the very program of this number
     abbrev HeldBy : ℕ → ℕ → ℕ → Type 0
-    HeldBy k u o = (p : Party) × (p.sort ≡ anObject) × (p.number ≡ o) × OnList r k u p
+    HeldBy k u o = (p : Party) × (p.sort ≡ an_object) × (p.number ≡ o) × OnList r k u p
 
     -- each entry of a list is for a program that has stood since
     entries : (k : ℕ) → k ≤ length calls → (u o : ℕ) → has (user (r.tables k) u).allowed.0 o ≡ true → HeldBy k u o
     entries zero h u o = λ b.
         let b' : has (user roll u).allowed.0 o ≡ true = subst (λ (t : Tables). has (user t u).allowed.0 o ≡ true) r.starts b in
         let there = loaded.sound Lists u (entry_some m roll (user_at roll u) o b') o b' in (
-          record { sort = anObject; number = o; since = 0 },
+          record { sort = an_object; number = o; since = 0 },
           refl,
           refl,
           by_roll (record { begun = (refl, there.0); before = zero-le; unended = λ j a c. absurd (not-suc-le-zero c) }) refl b' (λ i a c. absurd (not-suc-le-zero c)),
@@ -93,8 +93,8 @@ module _ {m : Meaning} {roll : Tables} {calls : List Call} {answers : List ℕ} 
                 (λ _ e. kept.1 (subst₂ (Ends (call_at calls k)) was.1 was.2 e))
                 (λ _ s e. kept.2 s (subst (λ (x : ℕ). call_at calls k ≡ Bar s u x) was.2 e)),
           ))
-          | inr made ↦ (let p = has_stands k (omega arith) anObject o made.2 in (
-            record { sort = anObject; number = o; since = p.0 },
+          | inr made ↦ (let p = has_stands k (omega arith) an_object o made.2 in (
+            record { sort = an_object; number = o; since = p.0 },
             refl,
             refl,
             by_allow k made.0 (stands_on k _ p.1 (λ _ e. allow_ends made.0 o made.1 e)) (omega arith) g made.1 p.1.before (λ i a c. absurd (not_le a c)),
@@ -104,8 +104,8 @@ module _ {m : Meaning} {roll : Tables} {calls : List Call} {answers : List ℕ} 
         not_le : {j : ℕ} → suc k ≤ j → j < suc k → ⊥
         not_le a b = omega arith
 
-        allow_ends : (s x : ℕ) → call_at calls k ≡ Allow s u o → Ends (call_at calls k) anObject x → ⊥
-        allow_ends s x e d = subst (λ (c : Call). Ends c anObject x) e d
+        allow_ends : (s x : ℕ) → call_at calls k ≡ Allow s u o → Ends (call_at calls k) an_object x → ⊥
+        allow_ends s x e d = subst (λ (c : Call). Ends c an_object x) e d
 
     -- a launch asks for an entry of the list, or an administrator
     pub launches_listed : LaunchesListed r

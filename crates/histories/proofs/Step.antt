@@ -17,11 +17,11 @@ use Rattle.calls.specs.declared.types.Call.{Call}
 use Rattle.calls.specs.declared.types.Call.TheVariants.{Enter, Launch, Leave, Read, Write, Create, Delete, Move, Raise, Mix, Unmix, Rights, Allow, Bar}
 use Rattle.calls.specs.Calls.{asks, AllFine}
 use Rattle.calls.specs.Effects.{created}
-use Rattle.histories.specs.Carries.{Sort, a_subject, anObject, present, label_of, Goal, standing, made, Flow, flows, carries, Among, Makes, Ends}
+use Rattle.histories.specs.Carries.{Sort, a_subject, an_object, present, label_of, Goal, standing, made, Flow, flows, carries, Among, Makes, Ends}
 use Rattle.histories.proofs.Outcome.{outcome}
 
 -- an object is no subject
-pub no_object : anObject ≡ a_subject → ⊥
+pub no_object : an_object ≡ a_subject → ⊥
 no_object e = let z : ◌≡◌ {A = ℕ} 0 1 = cc in omega arith
 
 -- the label of a flow's goal
@@ -71,13 +71,13 @@ module _ (m : Meaning) (laws : Lawful m) (t : Tables) where
   still ok k n h = (h, laws.flowing.itself (label_of t k n) (ok k n h))
 
   grown_object : LabelsStand m t → (o n : ℕ) (v : Option Object) → has_object t n ≡ true
-      → (o ≡ n → (is_some v ≡ true) × (m.flow (object t n).label (unwrap_or v blank_object).label ≡ true)) → Grown (put_object t o v) anObject n
+      → (o ≡ n → (is_some v ≡ true) × (m.flow (object t n).label (unwrap_or v blank_object).label ≡ true)) → Grown (put_object t o v) an_object n
   grown_object ok o n v h here =
-      at_put (λ x. (is_some x ≡ true) × (m.flow (object t n).label (unwrap_or x blank_object).label ≡ true)) t.objects o n v here (still ok anObject n h)
+      at_put (λ x. (is_some x ≡ true) × (m.flow (object t n).label (unwrap_or x blank_object).label ≡ true)) t.objects o n v here (still ok an_object n h)
 
   -- where the label stays
   grown_same : LabelsStand m t → (o n : ℕ) → has_object t n ≡ true → o ≡ n → m.flow (object t n).label (object t o).label ≡ true
-  grown_same ok o n h e = subst (λ (y : ℕ). m.flow (object t n).label (object t y).label ≡ true) (sym e) (still ok anObject n h).1
+  grown_same ok o n h e = subst (λ (y : ℕ). m.flow (object t n).label (object t y).label ≡ true) (sym e) (still ok an_object n h).1
 
   grown_subject : LabelsStand m t → (s n : ℕ) (v : Option Subject) → has_subject t n ≡ true → (s ≡ n → ⊥) → Grown (put_subject t s v) a_subject n
   grown_subject ok s n v h ne =
@@ -92,31 +92,31 @@ module _ (m : Meaning) (laws : Lawful m) (t : Tables) where
   -- every party that the call does not end
   pub grow : LabelsStand m t → (c : Call) (k : Sort) (n : ℕ) → AllFine (asks m t c) → present t k n ≡ true → (Ends c k n → ⊥) → Grown (outcome t c) k n
   grow ok (Enter u n l) a_subject x fine h on = grown_subject ok n x _ h (taken_free n x fine.1.1.0 h)
-  grow ok (Enter u n l) anObject x fine h on = still ok anObject x h
+  grow ok (Enter u n l) an_object x fine h on = still ok an_object x h
   grow ok (Launch s o n l) a_subject x fine h on = grown_subject ok n x _ h (taken_free n x fine.1.1.1.0 h)
-  grow ok (Launch s o n l) anObject x fine h on = still ok anObject x h
+  grow ok (Launch s o n l) an_object x fine h on = still ok an_object x h
   grow ok (Leave s) a_subject x fine h on = grown_subject ok s x None h (λ e. on (refl, sym e))
-  grow ok (Leave s) anObject x fine h on = still ok anObject x h
+  grow ok (Leave s) an_object x fine h on = still ok an_object x h
   grow ok (Read s o) k x fine h on = still ok k x h
   grow ok (Write s o) k x fine h on = still ok k x h
   grow ok (Create s p n kind l) a_subject x fine h on = still ok a_subject x h
-  grow ok (Create s p n kind l) anObject x fine h on = grown_object ok n x _ h (λ e. absurd (taken_free_object n x fine.1.1.1.0 h e))
+  grow ok (Create s p n kind l) an_object x fine h on = grown_object ok n x _ h (λ e. absurd (taken_free_object n x fine.1.1.1.0 h e))
   grow ok (Delete s o) a_subject x fine h on = still ok a_subject x h
-  grow ok (Delete s o) anObject x fine h on = grown_object ok o x None h (λ e. absurd (on (refl, sym e)))
+  grow ok (Delete s o) an_object x fine h on = grown_object ok o x None h (λ e. absurd (on (refl, sym e)))
   grow ok (Move s o q) a_subject x fine h on = still ok a_subject x h
-  grow ok (Move s o q) anObject x fine h on = grown_object ok o x _ h (λ e. (refl, grown_same ok o x h e))
+  grow ok (Move s o q) an_object x fine h on = grown_object ok o x _ h (λ e. (refl, grown_same ok o x h e))
   grow ok (Raise s o l) a_subject x fine h on = still ok a_subject x h
-  grow ok (Raise s o l) anObject x fine h on = grown_object ok o x _ h (λ e. (refl, subst (λ (y : ℕ). m.flow (object t y).label l ≡ true) e fine.1.1.1.1.1.0))
+  grow ok (Raise s o l) an_object x fine h on = grown_object ok o x _ h (λ e. (refl, subst (λ (y : ℕ). m.flow (object t y).label l ≡ true) e fine.1.1.1.1.1.0))
   grow ok (Mix s o) a_subject x fine h on = still ok a_subject x h
-  grow ok (Mix s o) anObject x fine h on = grown_object ok o x _ h (λ e. (refl, grown_same ok o x h e))
+  grow ok (Mix s o) an_object x fine h on = grown_object ok o x _ h (λ e. (refl, grown_same ok o x h e))
   grow ok (Unmix s o) a_subject x fine h on = still ok a_subject x h
-  grow ok (Unmix s o) anObject x fine h on = grown_object ok o x _ h (λ e. (refl, grown_same ok o x h e))
+  grow ok (Unmix s o) an_object x fine h on = grown_object ok o x _ h (λ e. (refl, grown_same ok o x h e))
   grow ok (Rights s o u mask) a_subject x fine h on = still ok a_subject x h
-  grow ok (Rights s o u mask) anObject x fine h on = grown_object ok o x _ h (λ e. (refl, grown_same ok o x h e))
+  grow ok (Rights s o u mask) an_object x fine h on = grown_object ok o x _ h (λ e. (refl, grown_same ok o x h e))
   grow ok (Allow s u o) a_subject x fine h on = still ok a_subject x h
-  grow ok (Allow s u o) anObject x fine h on = still ok anObject x h
+  grow ok (Allow s u o) an_object x fine h on = still ok an_object x h
   grow ok (Bar s u o) a_subject x fine h on = still ok a_subject x h
-  grow ok (Bar s u o) anObject x fine h on = still ok anObject x h
+  grow ok (Bar s u o) an_object x fine h on = still ok an_object x h
 
   -- the party that a call makes has the label that the flow to it asked for
   abbrev GoalMade : Tables → Goal → Type 0
@@ -137,7 +137,7 @@ module _ (m : Meaning) (laws : Lawful m) (t : Tables) where
       let at : get_or (set t.subjects n (Some v)) n None ≡ Some v = get_or-set_same t.subjects n (Some v) None (subst (λ (k : ℕ). n < k) (sym size.subjects) h) in
       (ap is_some at, ap (λ (x : Option Subject). (unwrap_or x blank_subject).label) at)
 
-  object_made : Sized t → (n : ℕ) (v : Object) → n < 64 → GoalMade (put_object t n (Some v)) (made anObject n v.label)
+  object_made : Sized t → (n : ℕ) (v : Object) → n < 64 → GoalMade (put_object t n (Some v)) (made an_object n v.label)
   object_made size n v h =
       let at : get_or (set t.objects n (Some v)) n None ≡ Some v = get_or-set_same t.objects n (Some v) None (subst (λ (k : ℕ). n < k) (sym size.objects) h) in
       (ap is_some at, ap (λ (x : Option Object). (unwrap_or x blank_object).label) at)
@@ -188,45 +188,45 @@ module _ (m : Meaning) (laws : Lawful m) (t : Tables) where
 
   pub came : (c : Call) (k : Sort) (x : ℕ) → AllFine (asks m t c) → present (outcome t c) k x ≡ true → Came c k x
   came (Enter u n l) a_subject x fine = at_put (λ y. is_some y ≡ true → Came (Enter u n l) a_subject x) t.subjects n x _ (λ e h. inr (refl, sym e)) (λ h. inl (h, λ z. z))
-  came (Enter u n l) anObject x fine = λ h. inl (h, λ z. z)
+  came (Enter u n l) an_object x fine = λ h. inl (h, λ z. z)
   came (Launch s o n l) a_subject x fine = at_put (λ y. is_some y ≡ true → Came (Launch s o n l) a_subject x) t.subjects n x _ (λ e h. inr (refl, sym e)) (λ h. inl (h, λ z. z))
-  came (Launch s o n l) anObject x fine = λ h. inl (h, λ z. z)
+  came (Launch s o n l) an_object x fine = λ h. inl (h, λ z. z)
   came (Leave s) a_subject x fine = λ h. let g = gone t.subjects s x h in inl (g.1, λ z. g.0 (sym z.1))
-  came (Leave s) anObject x fine = λ h. inl (h, λ z. no_object z.0)
+  came (Leave s) an_object x fine = λ h. inl (h, λ z. no_object z.0)
   came (Read s o) k x fine = λ h. inl (h, λ z. z)
   came (Write s o) k x fine = λ h. inl (h, λ z. z)
   came (Create s p n kind l) a_subject x fine = λ h. inl (h, λ z. z)
-  came (Create s p n kind l) anObject x fine = at_put (λ y. is_some y ≡ true → Came (Create s p n kind l) anObject x) t.objects n x _ (λ e h. inr (refl, sym e)) (λ h. inl (h, λ z. z))
+  came (Create s p n kind l) an_object x fine = at_put (λ y. is_some y ≡ true → Came (Create s p n kind l) an_object x) t.objects n x _ (λ e h. inr (refl, sym e)) (λ h. inl (h, λ z. z))
   came (Delete s o) a_subject x fine = λ h. inl (h, λ z. no_object (sym z.0))
-  came (Delete s o) anObject x fine = λ h. let g = gone t.objects o x h in inl (g.1, λ z. g.0 (sym z.1))
+  came (Delete s o) an_object x fine = λ h. let g = gone t.objects o x h in inl (g.1, λ z. g.0 (sym z.1))
   came (Move s o q) a_subject x fine = λ h. inl (h, λ z. z)
-  came (Move s o q) anObject x fine = λ h. inl (came_over o x _ fine.1.0 h, λ z. z)
+  came (Move s o q) an_object x fine = λ h. inl (came_over o x _ fine.1.0 h, λ z. z)
   came (Raise s o l) a_subject x fine = λ h. inl (h, λ z. z)
-  came (Raise s o l) anObject x fine = λ h. inl (came_over o x _ fine.1.0 h, λ z. z)
+  came (Raise s o l) an_object x fine = λ h. inl (came_over o x _ fine.1.0 h, λ z. z)
   came (Mix s o) a_subject x fine = λ h. inl (h, λ z. z)
-  came (Mix s o) anObject x fine = λ h. inl (came_over o x _ fine.1.0 h, λ z. z)
+  came (Mix s o) an_object x fine = λ h. inl (came_over o x _ fine.1.0 h, λ z. z)
   came (Unmix s o) a_subject x fine = λ h. inl (h, λ z. z)
-  came (Unmix s o) anObject x fine = λ h. inl (came_over o x _ fine.1.0 h, λ z. z)
+  came (Unmix s o) an_object x fine = λ h. inl (came_over o x _ fine.1.0 h, λ z. z)
   came (Rights s o u mask) a_subject x fine = λ h. inl (h, λ z. z)
-  came (Rights s o u mask) anObject x fine = λ h. inl (came_over o x _ fine.1.0 h, λ z. z)
+  came (Rights s o u mask) an_object x fine = λ h. inl (came_over o x _ fine.1.0 h, λ z. z)
   came (Allow s u o) a_subject x fine = λ h. inl (h, λ z. z)
-  came (Allow s u o) anObject x fine = λ h. inl (h, λ z. z)
+  came (Allow s u o) an_object x fine = λ h. inl (h, λ z. z)
   came (Bar s u o) a_subject x fine = λ h. inl (h, λ z. z)
-  came (Bar s u o) anObject x fine = λ h. inl (h, λ z. z)
+  came (Bar s u o) an_object x fine = λ h. inl (h, λ z. z)
 
   -- all labels stay labels
   labelled_object : LabelsStand m t → (o : ℕ) (v : Option Object) → (is_some v ≡ true → m.label (unwrap_or v blank_object).label ≡ true) → LabelsStand m (put_object t o v)
   labelled_object ok o v put a_subject n = ok a_subject n
-  labelled_object ok o v put anObject n = at_put (λ x. is_some x ≡ true → m.label (unwrap_or x blank_object).label ≡ true) t.objects o n v (λ e. put) (ok anObject n)
+  labelled_object ok o v put an_object n = at_put (λ x. is_some x ≡ true → m.label (unwrap_or x blank_object).label ≡ true) t.objects o n v (λ e. put) (ok an_object n)
 
   labelled_subject : LabelsStand m t → (s : ℕ) (v : Option Subject) → (is_some v ≡ true → m.label (unwrap_or v blank_subject).label ≡ true) → LabelsStand m (put_subject t s v)
-  labelled_subject ok s v put anObject n = ok anObject n
+  labelled_subject ok s v put an_object n = ok an_object n
   labelled_subject ok s v put a_subject n = at_put (λ x. is_some x ≡ true → m.label (unwrap_or x blank_subject).label ≡ true) t.subjects s n v (λ e. put) (ok a_subject n)
 
   -- the same labels
   labelled_as : (t' : Tables) → t'.subjects ≡ t.subjects → t'.objects ≡ t.objects → LabelsStand m t → LabelsStand m t'
   labelled_as t' es eo ok a_subject n = subst (λ (l : List (Option Subject)). is_some (get_or l n None) ≡ true → m.label (unwrap_or (get_or l n None) blank_subject).label ≡ true) (sym es) (ok a_subject n)
-  labelled_as t' es eo ok anObject n = subst (λ (l : List (Option Object)). is_some (get_or l n None) ≡ true → m.label (unwrap_or (get_or l n None) blank_object).label ≡ true) (sym eo) (ok anObject n)
+  labelled_as t' es eo ok an_object n = subst (λ (l : List (Option Object)). is_some (get_or l n None) ≡ true → m.label (unwrap_or (get_or l n None) blank_object).label ≡ true) (sym eo) (ok an_object n)
 
   pub labelled_on : LabelsStand m t → (c : Call) → AllFine (asks m t c) → LabelsStand m (outcome t c)
   labelled_on ok (Enter u n l) fine = labelled_subject ok n _ (λ _. fine.1.1.1.0)
@@ -239,12 +239,12 @@ module _ (m : Meaning) (laws : Lawful m) (t : Tables) where
     where
       labelled_as' : LabelsStand m (put_object t o None) → LabelsStand m (outcome t (Delete s o))
       labelled_as' h a_subject n = h a_subject n
-      labelled_as' h anObject n = h anObject n
-  labelled_on ok (Move s o q) fine = labelled_object ok o _ (λ _. ok anObject o fine.1.0)
+      labelled_as' h an_object n = h an_object n
+  labelled_on ok (Move s o q) fine = labelled_object ok o _ (λ _. ok an_object o fine.1.0)
   labelled_on ok (Raise s o l) fine = labelled_object ok o _ (λ _. fine.1.1.0)
-  labelled_on ok (Mix s o) fine = labelled_object ok o _ (λ _. ok anObject o fine.1.0)
-  labelled_on ok (Unmix s o) fine = labelled_object ok o _ (λ _. ok anObject o fine.1.0)
-  labelled_on ok (Rights s o u mask) fine = labelled_object ok o _ (λ _. ok anObject o fine.1.0)
+  labelled_on ok (Mix s o) fine = labelled_object ok o _ (λ _. ok an_object o fine.1.0)
+  labelled_on ok (Unmix s o) fine = labelled_object ok o _ (λ _. ok an_object o fine.1.0)
+  labelled_on ok (Rights s o u mask) fine = labelled_object ok o _ (λ _. ok an_object o fine.1.0)
   labelled_on ok (Allow s u o) fine = labelled_as (outcome t (Allow s u o)) refl refl ok
   labelled_on ok (Bar s u o) fine = labelled_as (outcome t (Bar s u o)) refl refl ok
 

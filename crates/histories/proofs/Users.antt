@@ -16,7 +16,7 @@ use Rattle.sound.specs.Nesting.{InRange}
 use Rattle.calls.specs.declared.types.Call.{Call}
 use Rattle.calls.specs.declared.types.Call.TheVariants.{Enter, Launch, Leave, Read, Write, Create, Delete, Move, Raise, Mix, Unmix, Rights, Allow, Bar}
 use Rattle.calls.specs.Calls.{asks, AllFine}
-use Rattle.histories.specs.Carries.{anObject, Ends}
+use Rattle.histories.specs.Carries.{an_object, Ends}
 use Rattle.histories.specs.Kept.{Ranged}
 use Rattle.histories.proofs.Outcome.{outcome}
 use Rattle.histories.proofs.Step.{no_object}
@@ -115,7 +115,7 @@ module _ (m : Meaning) (t : Tables) where
   -- where an entry of user u's list comes from
   abbrev Entry : Call → ℕ → ℕ → Type 0
   Entry c u o =
-      ((has (user t u).allowed.0 o ≡ true) × (Ends c anObject o → ⊥) × ((s : ℕ) → c ≡ Bar s u o → ⊥))
+      ((has (user t u).allowed.0 o ≡ true) × (Ends c an_object o → ⊥) × ((s : ℕ) → c ≡ Bar s u o → ⊥))
       ⊎ ((s : ℕ) × (c ≡ Allow s u o) × (has_object t o ≡ true) × ((object t o).kind ≡ Program))
 
   -- only a user that exists has entries

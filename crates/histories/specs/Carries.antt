@@ -7,17 +7,17 @@ use Rattle.calls.specs.declared.types.Call.TheVariants.{Enter, Launch, Leave, Re
 
 -- a party is a subject or an object
 pub data Sort : Type 0 where
-  a_subject anObject : Sort
+  a_subject an_object : Sort
 
 -- is there one of this sort and number?
 abbrev pub present : Tables → Sort → ℕ → Bool
 present t a_subject n = has_subject t n
-present t anObject n = has_object t n
+present t an_object n = has_object t n
 
 -- its label
 abbrev pub label_of : Tables → Sort → ℕ → ℕ
 label_of t a_subject n = (subject t n).label
-label_of t anObject n = (object t n).label
+label_of t an_object n = (object t n).label
 
 -- where a flow leads: to a party that stands, or to the one that the call makes, with its number and label
 pub data Goal : Type 0 where
@@ -31,19 +31,19 @@ pub data Flow : Type 0 where
 -- What a granted call carries: along each flow that it asks, from the first party to the second. Only a raise's flow to its new label carries nothing.
 abbrev pub carries : Tables → Call → List Flow
 carries t (Enter u n l) = []
-carries t (Launch s o n l) = flows a_subject s (made a_subject n l) ∷ flows anObject o (made a_subject n l) ∷ []
+carries t (Launch s o n l) = flows a_subject s (made a_subject n l) ∷ flows an_object o (made a_subject n l) ∷ []
 carries t (Leave s) = []
-carries t (Read s o) = flows anObject o (standing a_subject s) ∷ []
-carries t (Write s o) = flows a_subject s (standing anObject o) ∷ []
-carries t (Create s p n k l) = flows a_subject s (made anObject n l) ∷ flows a_subject s (standing anObject p) ∷ []
-carries t (Delete s o) = flows a_subject s (standing anObject o) ∷ flows a_subject s (standing anObject (object t o).parent) ∷ []
+carries t (Read s o) = flows an_object o (standing a_subject s) ∷ []
+carries t (Write s o) = flows a_subject s (standing an_object o) ∷ []
+carries t (Create s p n k l) = flows a_subject s (made an_object n l) ∷ flows a_subject s (standing an_object p) ∷ []
+carries t (Delete s o) = flows a_subject s (standing an_object o) ∷ flows a_subject s (standing an_object (object t o).parent) ∷ []
 carries t (Move s o q) =
-    flows a_subject s (standing anObject o) ∷ flows a_subject s (standing anObject (object t o).parent)
-    ∷ flows a_subject s (standing anObject q) ∷ flows anObject (object t o).parent (standing anObject q) ∷ []
-carries t (Raise s o l) = flows a_subject s (standing anObject o) ∷ []
-carries t (Mix s o) = flows a_subject s (standing anObject o) ∷ []
-carries t (Unmix s o) = flows a_subject s (standing anObject o) ∷ []
-carries t (Rights s o u mask) = flows a_subject s (standing anObject o) ∷ []
+    flows a_subject s (standing an_object o) ∷ flows a_subject s (standing an_object (object t o).parent)
+    ∷ flows a_subject s (standing an_object q) ∷ flows an_object (object t o).parent (standing an_object q) ∷ []
+carries t (Raise s o l) = flows a_subject s (standing an_object o) ∷ []
+carries t (Mix s o) = flows a_subject s (standing an_object o) ∷ []
+carries t (Unmix s o) = flows a_subject s (standing an_object o) ∷ []
+carries t (Rights s o u mask) = flows a_subject s (standing an_object o) ∷ []
 carries t (Allow s u o) = []
 carries t (Bar s u o) = []
 
@@ -59,7 +59,7 @@ Makes (Launch s o n l) k x = (k ≡ a_subject) × (x ≡ n)
 Makes (Leave s) k x = ⊥
 Makes (Read s o) k x = ⊥
 Makes (Write s o) k x = ⊥
-Makes (Create s p n kind l) k x = (k ≡ anObject) × (x ≡ n)
+Makes (Create s p n kind l) k x = (k ≡ an_object) × (x ≡ n)
 Makes (Delete s o) k x = ⊥
 Makes (Move s o q) k x = ⊥
 Makes (Raise s o l) k x = ⊥
@@ -77,7 +77,7 @@ Ends (Leave s) k x = (k ≡ a_subject) × (x ≡ s)
 Ends (Read s o) k x = ⊥
 Ends (Write s o) k x = ⊥
 Ends (Create s p n kind l) k x = ⊥
-Ends (Delete s o) k x = (k ≡ anObject) × (x ≡ o)
+Ends (Delete s o) k x = (k ≡ an_object) × (x ≡ o)
 Ends (Move s o q) k x = ⊥
 Ends (Raise s o l) k x = ⊥
 Ends (Mix s o) k x = ⊥

@@ -8,7 +8,7 @@ use Rattle.sound.specs.Nesting.{Nested}
 use Rattle.calls.specs.declared.types.Call.{Call}
 use Rattle.calls.specs.declared.types.Call.TheVariants.{Launch, Write}
 use Rattle.calls.specs.Calls.{actor}
-use Rattle.histories.specs.Carries.{anObject}
+use Rattle.histories.specs.Carries.{an_object}
 use Rattle.histories.specs.Kept.{Ranged}
 use Rattle.histories.specs.Runs.{Run, Party, Granted, Stands, label_at, Chain, OnList, call_at}
 
@@ -26,7 +26,7 @@ module _ {m : Meaning} {roll : Tables} {calls : List Call} {answers : List ℕ} 
   -- (c) if a subject was ever launched and its user was no administrator, that user's list held that very program at the launch
   abbrev pub LaunchesListed : Type 0
   LaunchesListed = (k s o n l : ℕ) → Granted r k → call_at calls k ≡ Launch s o n l → (actor (r.tables k) s).admin ≡ false
-      → (p : Party) × (p.sort ≡ anObject) × (p.number ≡ o) × OnList r k (subject (r.tables k) s).user p
+      → (p : Party) × (p.sort ≡ an_object) × (p.number ≡ o) × OnList r k (subject (r.tables k) s).user p
 
   -- no write into a program was ever granted
   abbrev pub ProgramsUnwritten : Type 0

@@ -8,7 +8,7 @@ use Rattle.calls.specs.declared.types.Call.{Call}
 use Rattle.calls.specs.declared.types.Call.TheVariants.{Leave, Allow, Bar}
 use Rattle.calls.specs.Calls.{Answer}
 use Rattle.calls.specs.Effects.{after}
-use Rattle.histories.specs.Carries.{Sort, anObject, present, label_of, Goal, standing, made, carries, Among, Makes, Ends}
+use Rattle.histories.specs.Carries.{Sort, an_object, present, label_of, Goal, standing, made, carries, Among, Makes, Ends}
 
 -- call k of a list, counted from 0, and its answer; what stands for those past the end is never looked at
 abbrev pub call_at : List Call → ℕ → Call
@@ -40,7 +40,7 @@ module _ {m : Meaning} {roll : Tables} {calls : List Call} {answers : List ℕ} 
 
   -- what made a party of this sort and number: the roll, which has objects only, or a granted call
   abbrev pub Begun : Sort → ℕ → ℕ → Type 0
-  Begun s n zero = (s ≡ anObject) × (present roll s n ≡ true)
+  Begun s n zero = (s ≡ an_object) × (present roll s n ≡ true)
   Begun s n (suc k) = Granted k × Makes (call_at calls k) s n
 
   -- the party stands before call k: it was made, and no granted call ended it since

@@ -32,20 +32,20 @@ module _ {A : Type 0} where
       ∙ (let ne : j ≢ p.0 = omega arith in get_or-set_other l p.0 j (Some p.1) None ne)
 
   -- empty slots are passed over
-  skip : (record-at : ℕ → A → Record) (l : List (Option A)) (d m : ℕ) → m + d ≤ length l → ((j : ℕ) → m ≤ j → j < m + d → get_or l j None ≡ None)
-      → slots record-at m (drop m l) ≡ slots record-at (m + d) (drop (m + d) l)
-  skip record-at l zero m h none = let e : m ≡ m + 0 = omega arith in ap (λ (k : ℕ). slots record-at k (drop k l)) e
-  skip record-at l (suc d) m h none =
+  skip : (record_at : ℕ → A → Record) (l : List (Option A)) (d m : ℕ) → m + d ≤ length l → ((j : ℕ) → m ≤ j → j < m + d → get_or l j None ≡ None)
+      → slots record_at m (drop m l) ≡ slots record_at (m + d) (drop (m + d) l)
+  skip record_at l zero m h none = let e : m ≡ m + 0 = omega arith in ap (λ (k : ℕ). slots record_at k (drop k l)) e
+  skip record_at l (suc d) m h none =
       let here : drop m l ≡ None ∷ drop (suc m) l = drop-cons l m None (omega arith) ∙ ap (λ (o : Option A). o ∷ drop (suc m) l) (none m (omega arith) (omega arith)) in
       let e : suc m + d ≡ m + suc d = omega arith in
-      ap (slots record-at m) here
-      ∙ skip record-at l d (suc m) (omega arith) (λ j a b. none j (omega arith) (omega arith))
-      ∙ ap (λ (k : ℕ). slots record-at k (drop k l)) e
+      ap (slots record_at m) here
+      ∙ skip record_at l d (suc m) (omega arith) (λ j a b. none j (omega arith) (omega arith))
+      ∙ ap (λ (k : ℕ). slots record_at k (drop k l)) e
 
-  slots_empty : (record-at : ℕ → A → Record) (m : ℕ) (l : List (Option A)) → ((j : ℕ) → get_or l j None ≡ None) → slots record-at m l ≡ []
-  slots_empty record-at m [] none = refl
-  slots_empty record-at m (None ∷ l) none = slots_empty record-at (suc m) l (λ j. none (suc j))
-  slots_empty record-at m (Some x ∷ l) none = let z : ◌≡◌ {A = Option A} (Some x) None = none 0 in absurd (some_none z)
+  slots_empty : (record_at : ℕ → A → Record) (m : ℕ) (l : List (Option A)) → ((j : ℕ) → get_or l j None ≡ None) → slots record_at m l ≡ []
+  slots_empty record_at m [] none = refl
+  slots_empty record_at m (None ∷ l) none = slots_empty record_at (suc m) l (λ j. none (suc j))
+  slots_empty record_at m (Some x ∷ l) none = let z : ◌≡◌ {A = Option A} (Some x) None = none 0 in absurd (some_none z)
     where
       some_none : {x : A} → ◌≡◌ {A = Option A} (Some x) None → ⊥
       some_none z = let q : ◌≡◌ {A = ℕ} 0 1 = cc in omega arith
@@ -56,15 +56,15 @@ module _ {A : Type 0} where
   index_dropped (suc m) (x ∷ l) j = index_dropped m l j ∙ (let e : suc (m + j) ≡ suc m + j = omega arith in ap (λ (k : ℕ). get_or (x ∷ l) k None) e)
 
   abbrev pub records_at : (ℕ → A → Record) → List (ℕ × A) → List Record
-  records_at record-at [] = []
-  records_at record-at (p ∷ ps) = record-at p.0 p.1 ∷ records_at record-at ps
+  records_at record_at [] = []
+  records_at record_at (p ∷ ps) = record_at p.0 p.1 ∷ records_at record_at ps
 
   -- what was put in ascending order is read in that order
-  pub read_back : (record-at : ℕ → A → Record) (l : List (Option A)) (m : ℕ) (ps : List (ℕ × A)) → Ascend m ps → Within (length l) ps
-      → ((j : ℕ) → m ≤ j → get_or l j None ≡ None) → slots record-at m (drop m (puts l ps)) ≡ records_at record-at ps
-  read_back record-at l m [] up within none =
-      slots_empty record-at m (drop m l) (λ j. index_dropped m l j ∙ none (m + j) (omega arith))
-  read_back record-at l m (p ∷ ps) up within none =
+  pub read_back : (record_at : ℕ → A → Record) (l : List (Option A)) (m : ℕ) (ps : List (ℕ × A)) → Ascend m ps → Within (length l) ps
+      → ((j : ℕ) → m ≤ j → get_or l j None ≡ None) → slots record_at m (drop m (puts l ps)) ≡ records_at record_at ps
+  read_back record_at l m [] up within none =
+      slots_empty record_at m (drop m l) (λ j. index_dropped m l j ∙ none (m + j) (omega arith))
+  read_back record_at l m (p ∷ ps) up within none =
       let n = p.0 in
       let l' : List (Option A) = set l n (Some p.1) in
       let all : List (Option A) = puts l' ps in
@@ -77,10 +77,10 @@ module _ {A : Type 0} where
       puts_below l' ps (suc n) j up.1 (omega arith) ∙ get_or-set_other l n j (Some p.1) None ne ∙ none j a in
       let there : get_or all n None ≡ Some p.1 = puts_below l' ps (suc n) n up.1 (omega arith) ∙ get_or-set_same l n (Some p.1) None room in
       let e : m + (n - m) ≡ n = omega arith in
-      let rest : slots record-at (suc n) (drop (suc n) all) ≡ records_at record-at ps
-      = read_back record-at l' (suc n) ps up.1 (subst (λ (k : ℕ). Within k ps) (sym (length-set l n (Some p.1))) within.1)
+      let rest : slots record_at (suc n) (drop (suc n) all) ≡ records_at record_at ps
+      = read_back record_at l' (suc n) ps up.1 (subst (λ (k : ℕ). Within k ps) (sym (length-set l n (Some p.1))) within.1)
       (λ j a. let ne : j ≢ n = omega arith in get_or-set_other l n j (Some p.1) None ne ∙ none j (omega arith)) in
-      skip record-at all (n - m) m (omega arith) gap
-      ∙ ap (λ (k : ℕ). slots record-at k (drop k all)) e
-      ∙ ap (slots record-at n) (drop-cons all n None (omega arith) ∙ ap (λ (o : Option A). o ∷ drop (suc n) all) there)
-      ∙ ap (λ (rs : List Record). record-at n p.1 ∷ rs) rest
+      skip record_at all (n - m) m (omega arith) gap
+      ∙ ap (λ (k : ℕ). slots record_at k (drop k all)) e
+      ∙ ap (slots record_at n) (drop-cons all n None (omega arith) ∙ ap (λ (o : Option A). o ∷ drop (suc n) all) there)
+      ∙ ap (λ (rs : List Record). record_at n p.1 ∷ rs) rest

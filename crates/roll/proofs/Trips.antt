@@ -151,10 +151,10 @@ blank_slots (suc n) zero = refl
 blank_slots (suc n) (suc j) = blank_slots n j
 
 -- the slots of one kind, filled from nothing
-one_kind : {A : Type 0} (record-at : ℕ → A → Record) (k : ℕ) (ps : List (ℕ × A)) → Ascend 0 ps → Within k ps
-    → slots record-at 0 (puts (replicate k None) ps) ≡ records_at record-at ps
-one_kind {A} record-at k ps up within =
-    read_back record-at (replicate k None) 0 ps up (subst (λ (n : ℕ). Within n ps) (sym (length-replicate k None)) within) (λ j h. blank_slots k j)
+one_kind : {A : Type 0} (record_at : ℕ → A → Record) (k : ℕ) (ps : List (ℕ × A)) → Ascend 0 ps → Within k ps
+    → slots record_at 0 (puts (replicate k None) ps) ≡ records_at record_at ps
+one_kind {A} record_at k ps up within =
+    read_back record_at (replicate k None) 0 ps up (subst (λ (n : ℕ). Within n ps) (sym (length-replicate k None)) within) (λ j h. blank_slots k j)
 
 -- what a roll's records made is written as those records
 pub taken_saved : (rs : List Record) → Roll rs → records_of (tables_from blank rs) ≡ rs
@@ -283,27 +283,27 @@ saved_taken t size =
     made blank (records_of t) ∙ (λ i. record { users = a i; groups = b i; subjects = replicate 32 None; objects = c i })
 
 -- and they are a roll
-rising_slots : {A : Type 0} (record-at : ℕ → A → Record) (b c : ℕ) → ((n : ℕ) (x : A) → rank_of (record-at n x) ≡ b + n) → (rest : List Record) → ((m : ℕ) → m < c → Rising m rest)
-    → (n : ℕ) (xs : List (Option A)) → b + (n + length xs) ≤ c → (m : ℕ) → m < b + n → m < c → Rising m (slots record-at n xs ++ rest)
-rising_slots record-at b c rank rest up n [] le m lt low = up m low
-rising_slots record-at b c rank rest up n (None ∷ xs) le m lt low = rising_slots record-at b c rank rest up (suc n) xs (omega arith) m (omega arith) low
-rising_slots record-at b c rank rest up n (Some x ∷ xs) le m lt low =
+rising_slots : {A : Type 0} (record_at : ℕ → A → Record) (b c : ℕ) → ((n : ℕ) (x : A) → rank_of (record_at n x) ≡ b + n) → (rest : List Record) → ((m : ℕ) → m < c → Rising m rest)
+    → (n : ℕ) (xs : List (Option A)) → b + (n + length xs) ≤ c → (m : ℕ) → m < b + n → m < c → Rising m (slots record_at n xs ++ rest)
+rising_slots record_at b c rank rest up n [] le m lt low = up m low
+rising_slots record_at b c rank rest up n (None ∷ xs) le m lt low = rising_slots record_at b c rank rest up (suc n) xs (omega arith) m (omega arith) low
+rising_slots record_at b c rank rest up n (Some x ∷ xs) le m lt low =
     let e = rank n x in
-    (omega arith, rising_slots record-at b c rank rest up (suc n) xs (omega arith) (rank_of (record-at n x)) (omega arith) (omega arith))
+    (omega arith, rising_slots record_at b c rank rest up (suc n) xs (omega arith) (rank_of (record_at n x)) (omega arith) (omega arith))
 
-forms_slots : {A : Type 0} (record-at : ℕ → A → Record) (rest : List Record) → AllByRecursion InForm rest → (n : ℕ) (xs : List (Option A))
-    → ((j : ℕ) (x : A) → get_or xs j None ≡ Some x → InForm (record-at (n + j) x)) → AllByRecursion InForm (slots record-at n xs ++ rest)
-forms_slots record-at rest all n [] form = all
-forms_slots record-at rest all n (None ∷ xs) form =
-    forms_slots record-at rest all (suc n) xs (λ j x e. let k : n + suc j ≡ suc n + j = omega arith in subst (λ (i : ℕ). InForm (record-at i x)) k (form (suc j) x e))
-forms_slots record-at rest all n (Some x ∷ xs) form = (
-  (let k : n + 0 ≡ n = omega arith in subst (λ (i : ℕ). InForm (record-at i x)) k (form 0 x refl)),
-  forms_slots record-at rest all (suc n) xs (λ j y e. let k : n + suc j ≡ suc n + j = omega arith in subst (λ (i : ℕ). InForm (record-at i y)) k (form (suc j) y e)),
+forms_slots : {A : Type 0} (record_at : ℕ → A → Record) (rest : List Record) → AllByRecursion InForm rest → (n : ℕ) (xs : List (Option A))
+    → ((j : ℕ) (x : A) → get_or xs j None ≡ Some x → InForm (record_at (n + j) x)) → AllByRecursion InForm (slots record_at n xs ++ rest)
+forms_slots record_at rest all n [] form = all
+forms_slots record_at rest all n (None ∷ xs) form =
+    forms_slots record_at rest all (suc n) xs (λ j x e. let k : n + suc j ≡ suc n + j = omega arith in subst (λ (i : ℕ). InForm (record_at i x)) k (form (suc j) x e))
+forms_slots record_at rest all n (Some x ∷ xs) form = (
+  (let k : n + 0 ≡ n = omega arith in subst (λ (i : ℕ). InForm (record_at i x)) k (form 0 x refl)),
+  forms_slots record_at rest all (suc n) xs (λ j y e. let k : n + suc j ≡ suc n + j = omega arith in subst (λ (i : ℕ). InForm (record_at i y)) k (form (suc j) y e)),
 )
 
-from_zero : {A : Type 0} (record-at : ℕ → A → Record) (xs : List (Option A)) → ((j : ℕ) (x : A) → get_or xs j None ≡ Some x → InForm (record-at j x))
-    → (j : ℕ) (x : A) → get_or xs j None ≡ Some x → InForm (record-at (0 + j) x)
-from_zero record-at xs form j x e = let k : j ≡ 0 + j = omega arith in subst (λ (i : ℕ). InForm (record-at i x)) k (form j x e)
+from_zero : {A : Type 0} (record_at : ℕ → A → Record) (xs : List (Option A)) → ((j : ℕ) (x : A) → get_or xs j None ≡ Some x → InForm (record_at j x))
+    → (j : ℕ) (x : A) → get_or xs j None ≡ Some x → InForm (record_at (0 + j) x)
+from_zero record_at xs form j x e = let k : j ≡ 0 + j = omega arith in subst (λ (i : ℕ). InForm (record_at i x)) k (form j x e)
 
 pub saved_roll : (t : Tables) → Formed t → Roll (records_of t)
 saved_roll t formed =
@@ -320,25 +320,25 @@ saved_roll t formed =
 
 -- each slot's record is among them
 abbrev AllAt : {A : Type 0} → (ℕ → A → Record) → ℕ → List (Option A) → Type 0
-AllAt {A} record-at n xs = (j : ℕ) (x : A) → get_or xs j None ≡ Some x → InForm (record-at (n + j) x)
+AllAt {A} record_at n xs = (j : ℕ) (x : A) → get_or xs j None ≡ Some x → InForm (record_at (n + j) x)
 
-at_none : {A : Type 0} (record-at : ℕ → A → Record) (n : ℕ) (xs : List (Option A)) → AllAt record-at (suc n) xs → AllAt record-at n (None ∷ xs)
-at_none record-at n xs all zero x e = let z : ◌≡◌ {A = ℕ} 0 1 = cc in absurd (omega arith)
-at_none record-at n xs all (suc j) x e = let k : suc n + j ≡ n + suc j = omega arith in subst (λ (i : ℕ). InForm (record-at i x)) k (all j x e)
+at_none : {A : Type 0} (record_at : ℕ → A → Record) (n : ℕ) (xs : List (Option A)) → AllAt record_at (suc n) xs → AllAt record_at n (None ∷ xs)
+at_none record_at n xs all zero x e = let z : ◌≡◌ {A = ℕ} 0 1 = cc in absurd (omega arith)
+at_none record_at n xs all (suc j) x e = let k : suc n + j ≡ n + suc j = omega arith in subst (λ (i : ℕ). InForm (record_at i x)) k (all j x e)
 
-at_some : {A : Type 0} (record-at : ℕ → A → Record) (n : ℕ) (y : A) (xs : List (Option A)) → InForm (record-at n y) → AllAt record-at (suc n) xs → AllAt record-at n (Some y ∷ xs)
-at_some {A} record-at n y xs one all zero x e = let k : n ≡ n + 0 = omega arith in let same : y ≡ x = cc in subst (λ (i : ℕ). InForm (record-at i x)) k (subst (λ (z : A). InForm (record-at n z)) same one)
-at_some record-at n y xs one all (suc j) x e = let k : suc n + j ≡ n + suc j = omega arith in subst (λ (i : ℕ). InForm (record-at i x)) k (all j x e)
+at_some : {A : Type 0} (record_at : ℕ → A → Record) (n : ℕ) (y : A) (xs : List (Option A)) → InForm (record_at n y) → AllAt record_at (suc n) xs → AllAt record_at n (Some y ∷ xs)
+at_some {A} record_at n y xs one all zero x e = let k : n ≡ n + 0 = omega arith in let same : y ≡ x = cc in subst (λ (i : ℕ). InForm (record_at i x)) k (subst (λ (z : A). InForm (record_at n z)) same one)
+at_some record_at n y xs one all (suc j) x e = let k : suc n + j ≡ n + suc j = omega arith in subst (λ (i : ℕ). InForm (record_at i x)) k (all j x e)
 
-every_slot : {A : Type 0} (record-at : ℕ → A → Record) (rest : List Record) (n : ℕ) (xs : List (Option A)) → AllByRecursion InForm (slots record-at n xs ++ rest)
-    → AllAt record-at n xs × AllByRecursion InForm rest
-every_slot record-at rest n [] all = ((λ j x e. let z : ◌≡◌ {A = ℕ} 0 1 = cc in absurd (omega arith)), all)
-every_slot record-at rest n (None ∷ xs) all = let more = every_slot record-at rest (suc n) xs all in (at_none record-at n xs more.0, more.1)
-every_slot record-at rest n (Some y ∷ xs) all = let more = every_slot record-at rest (suc n) xs all.1 in (at_some record-at n y xs all.0 more.0, more.1)
+every_slot : {A : Type 0} (record_at : ℕ → A → Record) (rest : List Record) (n : ℕ) (xs : List (Option A)) → AllByRecursion InForm (slots record_at n xs ++ rest)
+    → AllAt record_at n xs × AllByRecursion InForm rest
+every_slot record_at rest n [] all = ((λ j x e. let z : ◌≡◌ {A = ℕ} 0 1 = cc in absurd (omega arith)), all)
+every_slot record_at rest n (None ∷ xs) all = let more = every_slot record_at rest (suc n) xs all in (at_none record_at n xs more.0, more.1)
+every_slot record_at rest n (Some y ∷ xs) all = let more = every_slot record_at rest (suc n) xs all.1 in (at_some record_at n y xs all.0 more.0, more.1)
 
-to_zero : {A : Type 0} (record-at : ℕ → A → Record) (xs : List (Option A)) → ((j : ℕ) (x : A) → get_or xs j None ≡ Some x → InForm (record-at (0 + j) x))
-    → (j : ℕ) (x : A) → get_or xs j None ≡ Some x → InForm (record-at j x)
-to_zero record-at xs form j x e = let k : 0 + j ≡ j = omega arith in subst (λ (i : ℕ). InForm (record-at i x)) k (form j x e)
+to_zero : {A : Type 0} (record_at : ℕ → A → Record) (xs : List (Option A)) → ((j : ℕ) (x : A) → get_or xs j None ≡ Some x → InForm (record_at (0 + j) x))
+    → (j : ℕ) (x : A) → get_or xs j None ≡ Some x → InForm (record_at j x)
+to_zero record_at xs form j x e = let k : 0 + j ≡ j = omega arith in subst (λ (i : ℕ). InForm (record_at i x)) k (form j x e)
 
 -- the tables that a roll's records make can be written as a roll
 pub taken_formed : (rs : List Record) → Roll rs → Formed (tables_from blank rs)

@@ -66,9 +66,9 @@ object_record n o = record_of.Object (record {
 
 -- the slots that are not empty, from number n on
 abbrev pub slots : {A : Type 0} → (ℕ → A → Record) → ℕ → List (Option A) → List Record
-slots record-at n [] = []
-slots record-at n (None ∷ xs) = slots record-at (suc n) xs
-slots record-at n (Some x ∷ xs) = record-at n x ∷ slots record-at (suc n) xs
+slots record_at n [] = []
+slots record_at n (None ∷ xs) = slots record_at (suc n) xs
+slots record_at n (Some x ∷ xs) = record_at n x ∷ slots record_at (suc n) xs
 
 -- the records of the tables, in the order of a roll; subjects have none
 abbrev pub records_of : Tables → List Record
