@@ -1,7 +1,6 @@
 //! Replies to questions, to lines and to whole texts.
 ghost use Rattle.std.specs.Prelude.{◌≡◌, ℕ, ◌<◌, List, ◌∷◌, length, IfOk, Some as Text, string_bytes};
 ghost use Rattle.calculator.specs.Replies.{reply_to, reply_text, fault_text, Replied, Replies};
-ghost use Rattle.notation.specs.Notation.{meaning_of};
 ghost use Rattle.notation.specs.Texts.{Lines};
 
 use crate::questions::reads::read_question;
@@ -61,44 +60,17 @@ impl fmt::Display for Fault {
     }
 }
 
-/// Is this number a label of the scheme?
-fn label(scheme: SchemeName, a: u64) -> bool
-    ensures { result ≡ (meaning_of scheme).label a }
-{
-    match scheme {
-        SchemeName::House => house_label().label(a),
-        SchemeName::Old => old_label().label(a),
-    }
-}
-
-/// Does label `a` of the scheme flow to label `b`?
-fn flows(scheme: SchemeName, a: u64, b: u64) -> bool
-    ensures { result ≡ (meaning_of scheme).flow a b }
-{
-    match scheme {
-        SchemeName::House => house_label().flows(a, b),
-        SchemeName::Old => old_label().flows(a, b),
-    }
-}
-
-/// Does label `p` of the scheme hold label `c`?
-fn holds(scheme: SchemeName, p: u64, c: u64) -> bool
-    ensures { result ≡ (meaning_of scheme).hold p c }
-{
-    match scheme {
-        SchemeName::House => house_label().holds(p, c),
-        SchemeName::Old => old_label().holds(p, c),
-    }
-}
-
 /// The answer to a question.
 pub fn answer(question: Question) -> Reply
     ensures { result ≡ reply_to question }
 {
     match question {
-        Question::Label(scheme, a) => Reply::Truth(label(scheme, a)),
-        Question::Flows(scheme, a, b) => Reply::Truth(flows(scheme, a, b)),
-        Question::Holds(scheme, p, c) => Reply::Truth(holds(scheme, p, c)),
+        Question::Label(SchemeName::House, a) => Reply::Truth(house_label().label(a)),
+        Question::Label(SchemeName::Old, a) => Reply::Truth(old_label().label(a)),
+        Question::Flows(SchemeName::House, a, b) => Reply::Truth(house_label().flows(a, b)),
+        Question::Flows(SchemeName::Old, a, b) => Reply::Truth(old_label().flows(a, b)),
+        Question::Holds(SchemeName::House, p, c) => Reply::Truth(house_label().holds(p, c)),
+        Question::Holds(SchemeName::Old, p, c) => Reply::Truth(old_label().holds(p, c)),
         Question::Number(_, a) => Reply::Number(a),
         Question::Parts(SchemeName::House, a) => Reply::Parts(Parts::of(a)),
         Question::Parts(SchemeName::Old, a) => Reply::Number(a),
