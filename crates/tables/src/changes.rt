@@ -4,7 +4,7 @@ ghost use Rattle.std.specs.Option.{option_map};
 ghost use Rattle.tables.specs.Changes.{put_subject, put_object, at_user, at_object, moved, relabelled, remixed, regranted, listing, unlisting, without_object};
 
 use crate::sets::Rights;
-use crate::slots::{put, slot};
+use crate::slots::{change, put};
 use crate::types::{Object, Subject, Tables, User};
 
 /// Takes object `o` off the allow list of each user.
@@ -15,15 +15,6 @@ fn strike(users: &mut [Option<User>], o: u8)
         if let Some(user) = place {
             user.allowed.remove(o);
         }
-    }
-}
-
-/// Sets the set of `user` among an object's sets of rights: past the users, nothing.
-fn grant(sets: &mut [Rights], user: u8, rights: Rights)
-    ensures { sets.new ≡ slice_set sets.old user rights }
-{
-    if (user as usize) < sets.len() {
-        sets[user as usize] = rights;
     }
 }
 
@@ -61,59 +52,41 @@ impl Tables {
     pub fn set_parent(&mut self, o: u8, p: u8)
         ensures { self.new ≡ at_object self.old o (moved p) }
     {
-        if let Some(mut x) = slot(&self.objects, o) {
-            x.parent = p;
-            put(&mut self.objects, o, Some(x));
-        }
+        change(&mut self.objects, o, |x| x.parent = p);
     }
 
     /// Gives object `o` the label `label`.
     pub fn set_label(&mut self, o: u8, label: u64)
         ensures { self.new ≡ at_object self.old o (relabelled label) }
     {
-        if let Some(mut x) = slot(&self.objects, o) {
-            x.label = label;
-            put(&mut self.objects, o, Some(x));
-        }
+        change(&mut self.objects, o, |x| x.label = label);
     }
 
     /// Marks object `o` as mixed, or as unmixed.
     pub fn set_mixed(&mut self, o: u8, mixed: bool)
         ensures { self.new ≡ at_object self.old o (remixed mixed) }
     {
-        if let Some(mut x) = slot(&self.objects, o) {
-            x.mixed = mixed;
-            put(&mut self.objects, o, Some(x));
-        }
+        change(&mut self.objects, o, |x| x.mixed = mixed);
     }
 
     /// Gives `user` the set `rights` on object `o`, in place of the set that it had.
     pub fn set_rights(&mut self, o: u8, user: u8, rights: Rights)
         ensures { self.new ≡ at_object self.old o (regranted user rights) }
     {
-        if let Some(mut x) = slot(&self.objects, o) {
-            grant(&mut x.rights, user, rights);
-            put(&mut self.objects, o, Some(x));
-        }
+        change(&mut self.objects, o, |x| put(&mut x.rights, user, rights));
     }
 
     /// Puts object `o` on the allow list of `user`.
     pub fn allow(&mut self, user: u8, o: u8)
         ensures { self.new ≡ at_user self.old user (listing o) }
     {
-        if let Some(mut x) = slot(&self.users, user) {
-            x.allowed.insert(o);
-            put(&mut self.users, user, Some(x));
-        }
+        change(&mut self.users, user, |x| x.allowed.insert(o));
     }
 
     /// Takes object `o` off the allow list of `user`.
     pub fn bar(&mut self, user: u8, o: u8)
         ensures { self.new ≡ at_user self.old user (unlisting o) }
     {
-        if let Some(mut x) = slot(&self.users, user) {
-            x.allowed.remove(o);
-            put(&mut self.users, user, Some(x));
-        }
+        change(&mut self.users, user, |x| x.allowed.remove(o));
     }
 }

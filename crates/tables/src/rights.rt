@@ -12,26 +12,18 @@ use crate::types::{GROUPS, Object, Tables};
 fn entry_of(rights: &[Rights], user: u8) -> Rights
     ensures { result ≡ slice_index_or rights.now user no_rights }
 {
-    if (user as usize) < rights.len() {
-        rights[user as usize]
-    } else {
-        Rights(0)
-    }
+    rights.get(user as usize).copied().unwrap_or(Rights(0))
 }
 
 /// Has some group that is in both sets the right in its role?
 fn shares(roles: &[Option<Rights>; GROUPS], mine: GroupSet, its: GroupSet, right: Right) -> bool
     ensures { Decides result (Shared roles.now mine.0 its.0 right) }
 {
-    for g in 0..GROUPS as u8 {
-        if mine.contains(g)
+    (0..GROUPS as u8).any(|g| {
+        mine.contains(g)
             && its.contains(g)
-            && slot(roles, g).unwrap_or(Rights(0)).contains(right)
-        {
-            return true;
-        }
-    }
-    false
+            && slot(roles, g).is_some_and(|role| role.contains(right))
+    })
 }
 
 impl Tables {
@@ -39,43 +31,30 @@ impl Tables {
     pub fn is_admin(&self, user: u8) -> bool
         ensures { result ≡ (user_of self.now user).admin }
     {
-        match self.user(user) {
-            Some(x) => x.admin,
-            None => false,
-        }
+        self.user(user).is_some_and(|x| x.admin)
     }
 
     /// The groups that `user` is in: none if it does not exist.
     fn groups_of(&self, user: u8) -> GroupSet
         ensures { result ≡ (user_of self.now user).groups }
     {
-        match self.user(user) {
-            Some(x) => x.groups,
-            None => GroupSet(0),
-        }
+        self.user(user).map_or(GroupSet(0), |x| x.groups)
     }
 
     /// Is `program` on the allow list of `user`? One that does not exist has an empty list.
     pub fn is_listed(&self, user: u8, program: u8) -> bool
         ensures { result ≡ has (user_of self.now user).allowed.0 program }
     {
-        match self.user(user) {
-            Some(x) => x.allowed.contains(program),
-            None => false,
-        }
+        self.user(user).is_some_and(|x| x.allowed.contains(program))
     }
 
     /// Has `user` the right on `object`: as its owner, as an administrator, in the object's set for it, or through a group of both?
     pub fn has_right(&self, user: u8, object: &Object, right: Right) -> bool
         ensures { Decides result (HasRight self.now user object.now right) }
     {
-        if object.owner == user {
-            return true;
-        }
-        if self.is_admin(user) {
-            return true;
-        }
-        entry_of(&object.rights, user).contains(right)
+        object.owner == user
+            || self.is_admin(user)
+            || entry_of(&object.rights, user).contains(right)
             || shares(&self.groups, self.groups_of(user), object.groups, right)
     }
 }

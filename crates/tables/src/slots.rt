@@ -1,37 +1,38 @@
 //! The slots of a table, by number. A slot past the end of the table holds nothing, and takes nothing.
 ghost use Rattle.std.specs.Prelude.{◌≡◌, Some, None, slice_index_or, slice_set};
+ghost use Rattle.std.specs.Fn.{FnOnceReturnsAtMut};
 ghost use Rattle.std.specs.Option.{option_map};
 
 /// What slot `i` holds, copied.
 pub(crate) fn slot<T: Copy>(table: &[Option<T>], i: u8) -> Option<T>
     ensures { result ≡ slice_index_or table.now i None }
 {
-    if (i as usize) < table.len() {
-        table[i as usize]
-    } else {
-        None
-    }
+    table.get(i as usize).copied().flatten()
 }
 
 /// What slot `i` holds, lent.
 pub(crate) fn slot_ref<T>(table: &[Option<T>], i: u8) -> Option<&T>
     ensures { option_map (λ x. x.now) result ≡ slice_index_or table.now i None }
 {
-    if (i as usize) < table.len() {
-        match &table[i as usize] {
-            Some(x) => Some(x),
-            None => None,
-        }
-    } else {
-        None
-    }
+    table.get(i as usize)?.as_ref()
 }
 
 /// Writes `v` into slot `i`.
-pub(crate) fn put<T: Copy>(table: &mut [Option<T>], i: u8, v: Option<T>)
+pub(crate) fn put<T: Copy>(table: &mut [T], i: u8, v: T)
     ensures { table.new ≡ slice_set table.old i v }
 {
     if (i as usize) < table.len() {
         table[i as usize] = v;
+    }
+}
+
+/// Changes what slot `i` holds, if it holds something.
+pub(crate) fn change<T: Copy, F: FnOnce(&mut T)>(table: &mut [Option<T>], i: u8, change: F)
+    requires { F.IsAlwaysCallable change }
+    ensures { (g : T → T) → ((x y : T) → FnOnceReturnsAtMut F.FnOnce change x tt y → y ≡ g x) → table.new ≡ slice_set table.old i (option_map g (slice_index_or table.old i None)) }
+{
+    if let Some(mut x) = slot(table, i) {
+        change(&mut x);
+        put(table, i, Some(x));
     }
 }
