@@ -1,5 +1,5 @@
 -- What a chain over the numbers below a bound, or over the slots of a table, finds out. Assumes nothing.
-use Rattle.std.proofs.Common.{◌≡◌, ℕ, zero, suc, ◌+◌, ◌<◌, ◌≤◌, Bool, true, false, cond, List, [], ◌∷◌, ◌++◌, length, get_or, is_some, Some, None, Decides, Option, MatchOption, unwrap_or, refl, sym, ap, ◌∙◌, subst, inl, inr, arith}
+use Rattle.std.proofs.Common.{◌≡◌, ℕ, zero, suc, ◌<◌, ◌≤◌, Bool, true, false, cond, List, [], ◌∷◌, length, get_or, is_some, Some, None, Decides, Option, MatchOption, unwrap_or, refl, sym, ap, ◌∙◌, subst, inl, inr, arith}
 use Rattle.std.proofs.lemmas.Iterator.{YieldsList, cases_from_all, cases_from_any}
 use Rattle.std.proofs.lemmas.Bool.{true≢false, false≢true, cases_lt}
 use Rattle.std.proofs.lemmas.List.FromFn.{length-range_with_len, get_or-range_with_len}
@@ -11,7 +11,7 @@ use Rattle.std.specs.Bool.{MatchBool}
 use Rattle.std.specs.Fn.{Called}
 use Rattle.std.specs.Iterator.{YieldsThen}
 use Rattle.std.specs.Iterator.Adapters.{option_iter_item, option_iter_done, option_iter_steps, flatten_source, flatten_front, flatten_back, flatten_done, flatten_steps}
-use Rattle.std.specs.List.{AllWithin, HoldsAt, FoldsTo, flat_map, range_with_len}
+use Rattle.std.specs.List.{FoldsTo, flat_map, range_with_len}
 use Rattle.std.specs.Option.{option_to_list}
 use Rattle.std.specs.Slice.Iter.{iter_rest}
 use denote.Param.Members.{Mut}
@@ -35,8 +35,8 @@ module _ {S A F : Type 0} {steps : S → Option A → S → Type 0} {v : A → �
   Decides-all_numbers ran gives has_it has_not past =
       let size : length (range_with_len 0 n) ≡ n = length-range_with_len 0 n in
       decides r (cases_from_all u f r P (λ k. P k → ⊥) ran gives has_it has_not)
-          (λ all k. elim (cases_lt k n) [ inl h ↦ subst P (nth_number n k h) (all k 0 (omega arith) (omega arith)) | inr h ↦ past k h ])
-          (λ some all. some.2 0 (all _))
+      (λ all k. elim (cases_lt k n) [ inl h ↦ subst P (nth_number n k h) (all k 0 (omega arith) (omega arith)) | inr h ↦ past k h ])
+      (λ some all. some.2 0 (all _))
 
   -- has one of them P? None from n on has it
   pub Decides-any_number : (xs : List A) × (o : Option A) × (j : F) × YieldsThen steps s xs o u × FoldsTo (λ p x q. Called g p (x, tt) false q) f xs j × MatchOption o (r ≡ false) (λ x. (r ≡ true) × ((h : F) × Called g j (x, tt) true h))
@@ -46,8 +46,8 @@ module _ {S A F : Type 0} {steps : S → Option A → S → Type 0} {v : A → �
   Decides-any_number ran gives has_it has_not past =
       let size : length (range_with_len 0 n) ≡ n = length-range_with_len 0 n in
       decides r (cases_from_any u f r P (λ k. P k → ⊥) ran gives has_it has_not)
-          (λ some. (_, some.2 0))
-          (λ none some. elim (cases_lt some.0 n) [ inl h ↦ none some.0 0 (omega arith) (omega arith) (subst P (sym (nth_number n some.0 h)) some.1) | inr h ↦ past some.0 h some.1 ])
+      (λ some. (_, some.2 0))
+      (λ none some. elim (cases_lt some.0 n) [ inl h ↦ none some.0 0 (omega arith) (omega arith) (subst P (sym (nth_number n some.0 h)) some.1) | inr h ↦ past some.0 h some.1 ])
 
 -- what a slot gives, one after another: what it holds, or nothing
 module _ {A : Type 0} where
@@ -111,8 +111,8 @@ module _ {S X A F : Type 0} {steps : S → Option X → S → Type 0} {v : X →
       → Decides r ((k : ℕ) → is_some (get_or l k None) ≡ true → P (unwrap_or (get_or l k None) d))
   Decides-all_slots ran gives has_it has_not =
       decides r (cases_from_all u f r P (λ x. P x → ⊥) ran gives has_it has_not)
-          (λ all k full. let a = among d l k full in subst P a.is (all a.at d (omega arith) a.near))
-          (λ some all. let a = slot_of d l some.0 some.1 in some.2 d (subst P (sym a.is) (all a.number a.full)))
+      (λ all k full. let a = among d l k full in subst P a.is (all a.at d (omega arith) a.near))
+      (λ some all. let a = slot_of d l some.0 some.1 in some.2 d (subst P (sym a.is) (all a.number a.full)))
 
   -- has something that they hold P?
   pub Decides-any_slot : (xs : List X) × (o : Option X) × (j : F) × YieldsThen steps s xs o u × FoldsTo (λ p x q. Called g p (x, tt) false q) f xs j × MatchOption o (r ≡ false) (λ x. (r ≡ true) × ((h : F) × Called g j (x, tt) true h))
@@ -121,5 +121,5 @@ module _ {S X A F : Type 0} {steps : S → Option X → S → Type 0} {v : X →
       → Decides r ((k : ℕ) × (is_some (get_or l k None) ≡ true) × P (unwrap_or (get_or l k None) d))
   Decides-any_slot ran gives has_it has_not =
       decides r (cases_from_any u f r P (λ x. P x → ⊥) ran gives has_it has_not)
-          (λ some. let a = slot_of d l some.0 some.1 in (a.number, a.full, subst P a.is (some.2 d)))
-          (λ none some. let a = among d l some.0 some.1 in none a.at d (omega arith) a.near (subst P (sym a.is) some.2))
+      (λ some. let a = slot_of d l some.0 some.1 in (a.number, a.full, subst P a.is (some.2 d)))
+      (λ none some. let a = among d l some.0 some.1 in none a.at d (omega arith) a.near (subst P (sym a.is) some.2))

@@ -27,10 +27,6 @@ impl From<Kind> for u8 {
     ghost from_gives = { λ k n. n ≡ number_of_kind k };
 
     fn from(kind: Kind) -> u8 {
-        match kind {
-            Kind::Container => 0,
-            Kind::File => 1,
-            Kind::Program => 2,
-        }
+        kind as u8
     }
 }

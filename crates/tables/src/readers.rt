@@ -4,9 +4,10 @@ ghost use Rattle.std.specs.Option.{option_map};
 ghost use Rattle.tables.specs.State.{user_at, group_at, subject_at, object_at, blank};
 
 use crate::sets::Rights;
-use crate::slots::{slot, slot_ref};
+use crate::slots::slot;
 use crate::types::{GROUPS, OBJECTS, Object, SUBJECTS, Subject, Tables, USERS, User};
 
+// Kept: a reader for each table, since what they share is `slot`, and each is one line.
 impl Tables {
     /// Tables with every slot empty.
     pub fn blank() -> Tables
@@ -24,27 +25,27 @@ impl Tables {
     pub fn user(&self, u: u8) -> Option<&User>
         ensures { option_map (λ x. x.now) result ≡ user_at self.now u }
     {
-        slot_ref(&self.users, u)
+        slot(&self.users, u)
     }
 
     /// The role of group `g`, if there is one.
     pub fn group(&self, g: u8) -> Option<Rights>
         ensures { result ≡ group_at self.now g }
     {
-        slot(&self.groups, g)
+        slot(&self.groups, g).copied()
     }
 
     /// Subject `s`, if there is one.
     pub fn subject(&self, s: u8) -> Option<&Subject>
         ensures { option_map (λ x. x.now) result ≡ subject_at self.now s }
     {
-        slot_ref(&self.subjects, s)
+        slot(&self.subjects, s)
     }
 
     /// Object `o`, if there is one.
     pub fn object(&self, o: u8) -> Option<&Object>
         ensures { option_map (λ x. x.now) result ≡ object_at self.now o }
     {
-        slot_ref(&self.objects, o)
+        slot(&self.objects, o)
     }
 }

@@ -42,18 +42,11 @@ impl Right {
     fn bit(self) -> u8
         ensures { result ≡ bit_of self }
     {
-        match self {
-            Right::Read => 0,
-            Right::Write => 1,
-            Right::Create => 2,
-            Right::Delete => 3,
-            Right::ChangeRights => 4,
-            Right::Execute => 5,
-            Right::WriteAttributes => 6,
-        }
+        self as u8
     }
 }
 
+// Kept: three types of sets, so that none is taken for another, with what they share in `has_bit`; each `contains` is one line.
 impl Rights {
     /// Is `right` in this set?
     pub fn contains(self, right: Right) -> bool

@@ -3,15 +3,8 @@ ghost use Rattle.std.specs.Prelude.{◌≡◌, Some, None, slice_index_or, slice
 ghost use Rattle.std.specs.Fn.{FnOnceReturnsAtMut};
 ghost use Rattle.std.specs.Option.{option_map};
 
-/// What slot `i` holds, copied.
-pub(crate) fn slot<T: Copy>(table: &[Option<T>], i: u8) -> Option<T>
-    ensures { result ≡ slice_index_or table.now i None }
-{
-    table.get(i as usize).copied().flatten()
-}
-
 /// What slot `i` holds, lent.
-pub(crate) fn slot_ref<T>(table: &[Option<T>], i: u8) -> Option<&T>
+pub(crate) fn slot<T>(table: &[Option<T>], i: u8) -> Option<&T>
     ensures { option_map (λ x. x.now) result ≡ slice_index_or table.now i None }
 {
     table.get(i as usize)?.as_ref()
@@ -21,6 +14,7 @@ pub(crate) fn slot_ref<T>(table: &[Option<T>], i: u8) -> Option<&T>
 pub(crate) fn put<T: Copy>(table: &mut [T], i: u8, v: T)
     ensures { table.new ≡ slice_set table.old i v }
 {
+    // Kept: through the place that `get_mut` lends, a proof learns the table's length and none of its elements.
     if (i as usize) < table.len() {
         table[i as usize] = v;
     }
@@ -31,7 +25,8 @@ pub(crate) fn change<T: Copy, F: FnOnce(&mut T)>(table: &mut [Option<T>], i: u8,
     requires { F.IsAlwaysCallable change }
     ensures { (g : T → T) → ((x y : T) → FnOnceReturnsAtMut F.FnOnce change x tt y → y ≡ g x) → table.new ≡ slice_set table.old i (option_map g (slice_index_or table.old i None)) }
 {
-    if let Some(mut x) = slot(table, i) {
+    // Kept: the value is copied out and put back, for the same reason.
+    if let Some(mut x) = slot(table, i).copied() {
         change(&mut x);
         put(table, i, Some(x));
     }

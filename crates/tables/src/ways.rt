@@ -2,16 +2,18 @@
 ghost use Rattle.std.specs.Prelude.{Decides};
 ghost use Rattle.tables.specs.Ways.{Below, Under, Above};
 
-use crate::slots::slot_ref;
+use crate::slots::slot;
 use crate::types::{Object, Tables};
 
 /// Does `x` lie under `p` in this table? The shortest way up visits no slot twice, so more steps than slots lead nowhere new.
 fn climbs(objects: &[Option<Object>], x: u8, p: u8) -> bool
     ensures { Decides result (Below objects.now x p) }
 {
+    // Kept: parents are numbers of slots, since rolls and calls name objects so, and the tables are fixed.
+    // Kept: a loop, since it leaves the walk at four places, and `successors` would still have to count the steps.
     let mut at = x;
     for _step in 0..objects.len() {
-        let Some(object) = slot_ref(objects, at) else {
+        let Some(object) = slot(objects, at) else {
             return false;
         };
         if at == 0 {

@@ -1,4 +1,4 @@
-use Rattle.std.proofs.Common.{◌≡◌, ℕ, true, get_or, None, Option, unwrap_or, ap, ◌∙◌, sym, arith, rules}
+use Rattle.std.proofs.Common.{◌≡◌, true, get_or, None, Option, unwrap_or, ap, ◌∙◌, sym, arith, rules}
 use borrow.Author.Tests.{tests}
 use lib.ListN.{get_or-eq_default}
 use Rattle.std.proofs.lemmas.Bool.{false≢true}
@@ -17,9 +17,9 @@ returns c =
     let roles = c.args.roles.now in
     let right = c.args.right in
     Decides-like _ (λ s. (s.0, s.1.0, s.1.1, s.1.2)) (λ s. (s.0, (s.1, s.2, s.3)))
-        (Decides-any_number _ _ 16 _ (λ g. (has c.args.mine.0 g ≡ true) × (has c.args.its.0 g ≡ true) × Gives (unwrap_or (get_or roles g None) no_rights) right)
-        c.any.ensures.ran (YieldsList-from_range 0 16 16 (cc) cc)
-        (λ x q k. search (rules, tests)) (λ x q k. search (rules, tests))
-        (λ k far some.
-        let off : get_or roles k None ≡ None = get_or-eq_default roles None (omega arith) in
-        false≢true (sym (ap (λ (v : Option Rights). has (unwrap_or v no_rights).0 (bit_of right)) off ∙ has_none (bit_of right)) ∙ some.2)))
+    (Decides-any_number _ _ 16 _ (λ g. (has c.args.mine.0 g ≡ true) × (has c.args.its.0 g ≡ true) × Gives (unwrap_or (get_or roles g None) no_rights) right)
+    c.any.ensures.ran (YieldsList-from_range 0 16 16 (cc) cc)
+    (λ x q k. search (rules, tests)) (λ x q k. search (rules, tests))
+    (λ k far some.
+    let off : get_or roles k None ≡ None = get_or-eq_default roles None (omega arith) in
+    false≢true (sym (ap (λ (v : Option Rights). has (unwrap_or v no_rights).0 (bit_of right)) off ∙ has_none (bit_of right)) ∙ some.2)))

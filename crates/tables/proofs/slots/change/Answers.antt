@@ -8,4 +8,4 @@ changed l i f x y is e = ap (set l i) (ap Some e ∙ ap (option_map f) is)
 pub returns-in-Some : goal.returns-in-Some
 returns-in-Some g c f acts =
     c.put.ensures
-    ∙ changed c.args.table.now c.args.i f c.in-Some.x _ c.in-Some.ensures (acts c.in-Some.x _ (record { shown = _; shows = refl; left = _; met = c.change.ensures; leaves = refl }))
+    ∙ changed c.args.table.now c.args.i f c.in-Some.x _ (c.in-Some.ensures ∙ c.slot.ensures) (acts c.in-Some.x _ (record { shown = _; shows = refl; left = _; met = c.change.ensures; leaves = refl }))
