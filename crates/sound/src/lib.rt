@@ -7,6 +7,7 @@ mod administrators;
 pub mod clauses;
 pub mod ends;
 mod groups;
+mod kinds;
 mod labelled;
 mod lists;
 mod mixed;

@@ -14,12 +14,9 @@ impl<S: Scheme> View<'_, S> {
     fn held_at(&self, a: u8, l: u64) -> bool
         ensures { Decides result (Unmixed self.now.tables.now a → Holds (S.Scheme.meaning self.now.scheme.now) self.now.tables.now a l) }
     {
-        match self.tables.object(a) {
-            Some(x) => !matches!(x.kind, Kind::Container)
-                || x.mixed
-                || self.scheme.holds(x.label, l),
-            None => true,
-        }
+        self.tables.object(a).is_none_or(|x| {
+            x.kind != Kind::Container || x.mixed || self.scheme.holds(x.label, l)
+        })
     }
 
     /// Does each unmixed container that is `p` or above it hold label `l`? The shortest way up visits no slot twice, so more steps than
@@ -30,6 +27,7 @@ impl<S: Scheme> View<'_, S> {
         if !self.held_at(p, l) {
             return false;
         }
+        // Kept: a loop, since it leaves the walk at four places, and `successors` would still have to count the steps.
         let mut at = p;
         for _step in 0..objects_end(&self.tables.objects) {
             let Some(object) = self.tables.object(at) else {
@@ -50,22 +48,16 @@ impl<S: Scheme> View<'_, S> {
     fn holds_one(&self, o: u8, l: u64, x: u8) -> bool
         ensures { Decides result (Under self.now.tables.now x o → (S.Scheme.meaning self.now.scheme.now).hold l (object self.now.tables.now x).label ≡ true) }
     {
-        match self.tables.object(x) {
-            Some(y) => !self.tables.lies_under(x, o) || self.scheme.holds(l, y.label),
-            None => true,
-        }
+        self.tables
+            .object(x)
+            .is_none_or(|y| !self.tables.lies_under(x, o) || self.scheme.holds(l, y.label))
     }
 
     /// Does label `l` hold the label of every object under `o`?
     pub fn holds_under(&self, o: u8, l: u64) -> bool
         ensures { Decides result (HoldsUnder (S.Scheme.meaning self.now.scheme.now) self.now.tables.now o l) }
     {
-        for x in 0..objects_end(&self.tables.objects) {
-            if !self.holds_one(o, l, x) {
-                return false;
-            }
-        }
-        true
+        (0..objects_end(&self.tables.objects)).all(|x| self.holds_one(o, l, x))
     }
 
     /// Does each unmixed container that object `o` lies under hold `label`?
@@ -75,31 +67,26 @@ impl<S: Scheme> View<'_, S> {
         if o == 0 {
             return true;
         }
-        match self.tables.object(o) {
-            Some(x) => self.held_above(x.parent, label),
-            None => true,
-        }
+        let Some(x) = self.tables.object(o) else {
+            return true;
+        };
+        self.held_above(x.parent, label)
     }
 
     /// Does each unmixed container over object `x` hold its label?
     fn held_over(&self, x: u8) -> bool
         ensures { Decides result (HeldOver (S.Scheme.meaning self.now.scheme.now) self.now.tables.now x) }
     {
-        match self.tables.object(x) {
-            Some(object) => self.held_over_at(x, object.label),
-            None => true,
-        }
+        let Some(object) = self.tables.object(x) else {
+            return true;
+        };
+        self.held_over_at(x, object.label)
     }
 
     /// Does each unmixed container hold the label of every object under it, at any depth?
     pub fn labels_nest(&self) -> bool
         ensures { Decides result (Nested (S.Scheme.meaning self.now.scheme.now) self.now.tables.now) }
     {
-        for x in 0..objects_end(&self.tables.objects) {
-            if !self.held_over(x) {
-                return false;
-            }
-        }
-        true
+        (0..objects_end(&self.tables.objects)).all(|x| self.held_over(x))
     }
 }

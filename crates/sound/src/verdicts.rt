@@ -5,7 +5,6 @@ ghost use Rattle.sound.specs.Sound.{Sound, FirstFailing};
 use crate::administrators::administrator_exists;
 use crate::clauses::Clause;
 use crate::groups::groups_exist;
-use crate::labelled::labels_hold;
 use crate::lists::lists_hold;
 use crate::mixed::only_containers_mixed;
 use crate::owners::owners_exist;
@@ -21,7 +20,7 @@ impl<S: Scheme> View<'_, S> {
         if !groups_exist(self.tables) {
             return Some(Clause::Groups);
         }
-        if !labels_hold(self.scheme, self.tables) {
+        if !self.labels_hold() {
             return Some(Clause::Labels);
         }
         if !tree_stands(self.tables) {

@@ -1,12 +1,13 @@
 -- What a chain over the numbers below a bound, or over the slots of a table, finds out. Assumes nothing.
 use Rattle.std.proofs.Common.{◌≡◌, ℕ, zero, suc, ◌<◌, ◌≤◌, Bool, true, false, cond, List, [], ◌∷◌, length, get_or, is_some, Some, None, Decides, Option, MatchOption, unwrap_or, refl, sym, ap, ◌∙◌, subst, inl, inr, arith}
+use Rattle.std.specs.declared.ops.Range.{Range}
 use Rattle.std.proofs.lemmas.Iterator.{YieldsList, cases_from_all, cases_from_any}
 use Rattle.std.proofs.lemmas.Bool.{true≢false, false≢true, cases_lt}
 use Rattle.std.proofs.lemmas.List.FromFn.{length-range_with_len, get_or-range_with_len}
 use Rattle.std.proofs.lemmas.Iterator.Adapters.{YieldsList-from_flatten}
 use Rattle.std.proofs.lemmas.Iterator.Consumers.{YieldsList-from_shown}
-use Rattle.std.proofs.lemmas.Iterator.{YieldsList-from_slice}
-use Rattle.std.proofs.iter.Yields.{fronts}
+use Rattle.std.proofs.lemmas.Iterator.{YieldsList-from_slice, YieldsList-from_range}
+use Rattle.std.proofs.iter.Yields.{fronts, nat_range_steps}
 use Rattle.std.specs.Bool.{MatchBool}
 use Rattle.std.specs.Fn.{Called}
 use Rattle.std.specs.Iterator.{YieldsThen}
@@ -14,6 +15,7 @@ use Rattle.std.specs.Iterator.Adapters.{option_iter_item, option_iter_done, opti
 use Rattle.std.specs.List.{FoldsTo, flat_map, range_with_len}
 use Rattle.std.specs.Option.{option_to_list}
 use Rattle.std.specs.Slice.Iter.{iter_rest}
+use Rattle.tables.proofs.Puts.{within}
 use denote.Param.Members.{Mut}
 use denote.Ref.{Bor}
 
@@ -24,6 +26,15 @@ decides false m sure off = ((λ e. absurd (false≢true e)), λ p. absurd (off m
 
 nth_number : (n k : ℕ) → k < n → get_or (range_with_len 0 n) k 0 ≡ k
 nth_number n k h = get_or-range_with_len 0 n k 0 h ∙ omega arith
+
+-- what is decided of what an option holds is decided, where its being empty makes it so
+pub Decides-none_or : {A P : Type 0} {Of : A → Type 0} (o : Option A) (r : Bool) → MatchOption o (r ≡ true) Of → (o ≡ None → P) → ((x : A) → o ≡ Some x → Of x → Decides r P) → Decides r P
+Decides-none_or None r e empty full = ((λ _. empty refl), λ _. e)
+Decides-none_or (Some x) r e empty full = full x refl e
+
+-- `(0..n)` gives the numbers below n
+pub YieldsList-below : {s : Range ℕ} (n : ℕ) → s ≡ record { start = 0; end = n } → YieldsList nat_range_steps (λ x. x) s (range_with_len 0 n)
+YieldsList-below n e = YieldsList-from_range 0 n n e (omega arith)
 
 -- a chain that gives the numbers below n
 module _ {S A F : Type 0} {steps : S → Option A → S → Type 0} {v : A → ℕ} {g : Mut F (A × Unit {0}) Bool} {s : S} (u : S) (f : F) (n : ℕ) (r : Bool) (P : ℕ → Type 0) where
@@ -123,3 +134,7 @@ module _ {S X A F : Type 0} {steps : S → Option X → S → Type 0} {v : X →
       decides r (cases_from_any u f r P (λ x. P x → ⊥) ran gives has_it has_not)
       (λ some. let a = slot_of d l some.0 some.1 in (a.number, a.full, subst P a.is (some.2 d)))
       (λ none some. let a = among d l some.0 some.1 in none a.at d (omega arith) a.near (subst P (sym a.is) some.2))
+
+-- past the end of a table no slot holds something
+pub empty_past : {A : Type 0} (l : List (Option A)) (n k : ℕ) → length l ≤ n → n ≤ k → is_some (get_or l k None) ≡ true → ⊥
+empty_past l n k end far full = let near : k < length l = within l k full in omega arith

@@ -1,13 +1,13 @@
-use Rattle.std.proofs.Common.{sym, arith}
-use Rattle.std.proofs.lemmas.Bool.Decides.{not_from_Decides}
-use Rattle.sound.proofs.Every.{no, every_holds, none_past}
+use Rattle.std.proofs.Common.{◌≡◌, true, arith, rules}
+use borrow.Author.Tests.{tests}
+use Rattle.tables.specs.Sets.{has}
+use Rattle.tables.specs.declared.types.Kind.TheVariants.{Program}
+use Rattle.tables.proofs.Chains.{Decides-all_numbers, YieldsList-below}
+use Rattle.sound.specs.Sound.{IsKind}
+use Rattle.sound.proofs.Every.{none_past}
 use Rattle.sound.proofs.lists.all_programs.Goals as goal
 
 pub returns : goal.returns
 returns c =
-    every_holds c.loop-o.o c.loop-o.invariant
-    (λ k far in-it. absurd (none_past c.args.set.0 64 k (omega arith) (omega arith) in-it))
-
-pub returns-then-not-is_program : goal.returns-then-not-is_program
-returns-then-not-is_program c =
-    no (λ all. not_from_Decides c.is_program.result c.is_program.ensures c.if-not-is_program.true (all c.loop-o.o (sym c.if-contains.ensures)))
+    Decides-all_numbers _ _ 64 _ (λ o. has c.args.set.0 o ≡ true → IsKind c.args.t.now Program o) c.all.ensures.ran (YieldsList-below 64 cc) (λ x q k. search (rules, tests)) (λ x q k. search (rules, tests))
+    (λ k far in_it. absurd (none_past c.args.set.0 64 k (omega arith) far in_it))

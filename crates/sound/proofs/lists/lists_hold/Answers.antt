@@ -1,13 +1,12 @@
-use Rattle.std.proofs.Common.{arith}
-use Rattle.std.proofs.lemmas.Bool.Decides.{not_from_Decides}
-use Rattle.sound.proofs.Every.{no, more, slots_hold}
+use Rattle.std.proofs.Common.{rules}
+use borrow.Author.Tests.{tests}
+use Rattle.tables.specs.declared.types.User.{User}
+use Rattle.tables.specs.State.{blank_user}
+use Rattle.tables.proofs.Chains.{Decides-all_slots, YieldsList-from_slots}
+use Rattle.sound.specs.Sound.{ProgramsOnly}
 use Rattle.sound.proofs.lists.lists_hold.Goals as goal
 
 pub returns : goal.returns
-returns c = slots_hold c.args.t.now.users c.loop-u.u (omega arith) c.loop-u.invariant
-
-pub returns-then-not-user_listed : goal.returns-then-not-user_listed
-returns-then-not-user_listed c = no (λ all. not_from_Decides c.user_listed.result c.user_listed.ensures c.if-not-user_listed.true (all c.loop-u.u))
-
-pub loop-u-preserved : goal.loop-u-preserved
-loop-u-preserved c = more c.loop-u.u c.loop-u.invariant (c.user_listed.ensures.0 c.if-not-user_listed.false)
+returns c =
+    let users = c.args.t.now.users in
+    Decides-all_slots _ _ users blank_user _ (λ (x : User). ProgramsOnly c.args.t.now x.allowed.0) c.all.ensures.ran (YieldsList-from_slots _ users (λ x j b. (b.0, b.1)) (cc) (cc) (cc) cc) (λ x q k. search (rules, tests)) (λ x q k. search (rules, tests))

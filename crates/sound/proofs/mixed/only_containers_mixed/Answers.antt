@@ -1,13 +1,11 @@
-use Rattle.std.proofs.Common.{arith}
-use Rattle.std.proofs.lemmas.Bool.Decides.{not_from_Decides}
-use Rattle.sound.proofs.Every.{no, more, slots_hold}
+use Rattle.std.proofs.Common.{rules}
+use borrow.Author.Tests.{tests}
+use Rattle.tables.specs.State.{blank_object}
+use Rattle.tables.proofs.Chains.{Decides-all_slots, YieldsList-from_slots}
+use Rattle.sound.specs.Sound.{MixedRight}
 use Rattle.sound.proofs.mixed.only_containers_mixed.Goals as goal
 
 pub returns : goal.returns
-returns c = slots_hold c.args.t.now.objects c.loop-o.o (omega arith) c.loop-o.invariant
-
-pub returns-then-not-is_mixed_right : goal.returns-then-not-is_mixed_right
-returns-then-not-is_mixed_right c = no (λ all. not_from_Decides c.is_mixed_right.result c.is_mixed_right.ensures c.if-not-is_mixed_right.true (all c.loop-o.o))
-
-pub loop-o-preserved : goal.loop-o-preserved
-loop-o-preserved c = more c.loop-o.o c.loop-o.invariant (c.is_mixed_right.ensures.0 c.if-not-is_mixed_right.false)
+returns c =
+    let objects = c.args.t.now.objects in
+    Decides-all_slots _ _ objects blank_object _ MixedRight c.all.ensures.ran (YieldsList-from_slots _ objects (λ x j b. (b.0, b.1)) (cc) (cc) (cc) cc) (λ x q k. search (rules, tests)) (λ x q k. search (rules, tests))

@@ -1,8 +1,8 @@
 use Rattle.sound.proofs.Walk.{above_under, under_above}
 use Rattle.sound.proofs.views.View.held_over_at.Goals as goal
 
-pub returns-in-Some : goal.returns-in-Some
-returns-in-Some g c =
+pub returns : goal.returns
+returns g c =
     let t = c.args.self.now.tables.now in
     let o = c.args.o in
     let x = c.in-Some.x.now in

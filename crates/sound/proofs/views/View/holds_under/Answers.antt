@@ -1,14 +1,15 @@
-use Rattle.std.proofs.Common.{◌<◌, length, arith}
+use Rattle.std.proofs.Common.{◌≡◌, true, ◌<◌, length, arith, rules}
+use borrow.Author.Tests.{tests}
+use Rattle.tables.specs.State.{object}
+use Rattle.tables.specs.Ways.{Under}
+use Rattle.tables.proofs.Chains.{Decides-all_numbers, YieldsList-below}
 use Rattle.tables.proofs.Climb.{below_within}
-use Rattle.std.proofs.lemmas.Bool.Decides.{not_from_Decides}
-use Rattle.sound.proofs.Every.{yes, no, more}
 use Rattle.sound.proofs.views.View.holds_under.Goals as goal
 
 pub returns : goal.returns
-returns g c = yes (λ x b. let near : x < length c.args.self.now.tables.now.objects = below_within b in c.loop-x.invariant x (omega arith) b)
-
-pub returns-then-not-holds_one : goal.returns-then-not-holds_one
-returns-then-not-holds_one g c = no (λ all. not_from_Decides c.holds_one.result c.holds_one.ensures c.if-not-holds_one.true (all c.loop-x.x))
-
-pub loop-x-preserved : goal.loop-x-preserved
-loop-x-preserved g c = more c.loop-x.x c.loop-x.invariant (c.holds_one.ensures.0 c.if-not-holds_one.false)
+returns g c =
+    let t = c.args.self.now.tables.now in
+    let n = c.objects_end.result in
+    Decides-all_numbers _ _ n _ (λ x. Under t x c.args.o → (g.S.Scheme.meaning c.args.self.now.scheme.now).hold c.args.l (object t x).label ≡ true)
+    c.all.ensures.ran (YieldsList-below n cc) (λ x q k. search (rules, tests)) (λ x q k. search (rules, tests))
+    (λ x far b. let near : x < length t.objects = below_within b in absurd (omega arith))
