@@ -1,6 +1,7 @@
 -- The clauses in their order: which hold before the first that fails, and that there is one first. Assumes nothing.
-use Rattle.std.proofs.Common.{◌≡◌, ℕ, zero, suc, ◌<◌, Some, None, Option, sym, refl, ap, ◌∙◌, subst, inl, inr, arith, MatchOption}
-use Rattle.std.proofs.lemmas.Bool.{cases_lt, cases_order}
+use Rattle.std.proofs.Common.{◌≡◌, ℕ, zero, suc, ◌+◌, ◌<◌, List, [], ◌∷◌, get_or, Some, None, Option, sym, refl, ap, ◌∙◌, subst, inl, inr, arith, MatchOption}
+use Rattle.std.proofs.lemmas.Bool.{cases_order}
+use Rattle.std.specs.List.{AllWithin, HoldsAt}
 use Rattle.labels.specs.Meaning.{Meaning}
 use Rattle.tables.specs.declared.types.Tables.{Tables}
 use Rattle.sound.specs.Nesting.{Nested}
@@ -8,58 +9,63 @@ use Rattle.sound.specs.Sound.{Holding, number, Sound, FirstFailing, Grouped, Lab
 use Rattle.sound.specs.declared.clauses.Clause.{Clause}
 use Rattle.sound.specs.declared.clauses.Clause.TheVariants.{Groups, Labels, Tree, Owners, Lists, Administrator, Nesting, Mixed}
 
--- the clause at a place
-abbrev at : ℕ → Clause
-at zero = Groups
-at (suc zero) = Groups
-at (suc (suc zero)) = Labels
-at (suc (suc (suc zero))) = Tree
-at (suc (suc (suc (suc zero)))) = Owners
-at (suc (suc (suc (suc (suc zero))))) = Lists
-at (suc (suc (suc (suc (suc (suc zero)))))) = Administrator
-at (suc (suc (suc (suc (suc (suc (suc zero))))))) = Nesting
-at (suc (suc (suc (suc (suc (suc (suc (suc n)))))))) = Mixed
+-- the clauses in their order
+abbrev pub every_clause : List Clause
+every_clause = Groups ∷ Labels ∷ Tree ∷ Owners ∷ Lists ∷ Administrator ∷ Nesting ∷ Mixed ∷ []
 
-at_number : (c : Clause) → at (number c) ≡ c
-at_number Groups = refl
-at_number Labels = refl
-at_number Tree = refl
-at_number Owners = refl
-at_number Lists = refl
-at_number Administrator = refl
-at_number Nesting = refl
-at_number Mixed = refl
+-- where a clause stands among them
+record Place (c : Clause) : Type 0 where
+  at : ℕ
+  near : at < 8
+  is : get_or every_clause at Groups ≡ c
+  number_is : number c ≡ at + 1
+
+place : (c : Clause) → Place c
+place Groups = record { at = 0; near = omega arith; is = refl; number_is = refl }
+place Labels = record { at = 1; near = omega arith; is = refl; number_is = refl }
+place Tree = record { at = 2; near = omega arith; is = refl; number_is = refl }
+place Owners = record { at = 3; near = omega arith; is = refl; number_is = refl }
+place Lists = record { at = 4; near = omega arith; is = refl; number_is = refl }
+place Administrator = record { at = 5; near = omega arith; is = refl; number_is = refl }
+place Nesting = record { at = 6; near = omega arith; is = refl; number_is = refl }
+place Mixed = record { at = 7; near = omega arith; is = refl; number_is = refl }
 
 -- two clauses with one place are the same
-pub same_number : (c d : Clause) → number c ≡ number d → c ≡ d
-same_number c d e = sym (at_number c) ∙ ap at e ∙ at_number d
+same_number : (c d : Clause) → number c ≡ number d → c ≡ d
+same_number c d e =
+    let p = place c in
+    let q = place d in
+    let same : p.at ≡ q.at = (let m = p.number_is in let n = q.number_is in omega arith) in
+    sym p.is ∙ ap (λ i. get_or every_clause i Groups) same ∙ q.is
 
-places : (c : Clause) → (0 < number c) × (number c < 9)
-places Groups = (omega arith, omega arith)
-places Labels = (omega arith, omega arith)
-places Tree = (omega arith, omega arith)
-places Owners = (omega arith, omega arith)
-places Lists = (omega arith, omega arith)
-places Administrator = (omega arith, omega arith)
-places Nesting = (omega arith, omega arith)
-places Mixed = (omega arith, omega arith)
+-- the clause that stands at i has the number i + 1
+number_at : (i : ℕ) (d : Clause) → i < 8 → number (get_or every_clause i d) ≡ i + 1
+number_at zero d h = refl
+number_at (suc zero) d h = refl
+number_at (suc (suc zero)) d h = refl
+number_at (suc (suc (suc zero))) d h = refl
+number_at (suc (suc (suc (suc zero)))) d h = refl
+number_at (suc (suc (suc (suc (suc zero))))) d h = refl
+number_at (suc (suc (suc (suc (suc (suc zero)))))) d h = refl
+number_at (suc (suc (suc (suc (suc (suc (suc zero))))))) d h = refl
+number_at (suc (suc (suc (suc (suc (suc (suc (suc i)))))))) d h = absurd (omega arith)
 
 module _ (m : Meaning) (t : Tables) where
-  -- the clauses before a place hold
-  abbrev pub Before : ℕ → Type 0
-  Before n = (d : Clause) → number d < n → Holding d m t
+  abbrev Held : Clause → Type 0
+  Held c = Holding c m t
 
-  pub before_none : Before 1
-  before_none d h = absurd (let p = places d in omega arith)
-
-  pub before_more : (c : Clause) → Before (number c) → Holding c m t → Before (suc (number c))
-  before_more c below here d h = elim (cases_lt (number d) (number c)) [
-    | inl less ↦ below d less
-    | inr more ↦ subst (λ (e : Clause). Holding e m t) (same_number c d (omega arith)) here
-  ]
-
-  pub before_all : Before 9 → Sound m t
-  before_all all c = all c (places c).1
+  -- the first clause in their order that fails fails first, and if none does the tables are sound
+  pub first_from_order : (r : Option Clause)
+      → MatchOption r (AllWithin Held every_clause 0 8) (λ c. (Held c → ⊥) × (i : ℕ) × (i < 8) × HoldsAt (λ d. d ≡ c) every_clause i × AllWithin Held every_clause 0 i)
+      → MatchOption r (Sound m t) (FirstFailing m t)
+  first_from_order None all = λ c. let p = place c in subst Held p.is (all p.at Groups (omega arith) p.near)
+  first_from_order (Some c) first = record {
+    before = λ d less.
+        let p = place d in
+        let n : number c ≡ first.1 + 1 = sym (ap number (first.3 c)) ∙ number_at first.1 c first.2 in
+        subst Held p.is (first.4 p.at Groups (omega arith) (let k = p.number_is in omega arith));
+    fails = first.0;
+  }
 
   -- two clauses that both fail first are the same
   pub first_unique : {c d : Clause} → FirstFailing m t c → FirstFailing m t d → c ≡ d

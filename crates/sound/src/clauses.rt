@@ -20,3 +20,17 @@ pub enum Clause {
     /// Only containers are mixed.
     Mixed,
 }
+
+impl Clause {
+    /// Every clause, in the order in which they are checked.
+    pub(crate) const ALL: [Clause; 8] = [
+        Clause::Groups,
+        Clause::Labels,
+        Clause::Tree,
+        Clause::Owners,
+        Clause::Lists,
+        Clause::Administrator,
+        Clause::Nesting,
+        Clause::Mixed,
+    ];
+}

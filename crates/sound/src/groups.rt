@@ -17,5 +17,8 @@ pub(crate) fn groups_exist(t: &Tables) -> bool
     ensures { Decides result (Grouped t.now) }
 {
     t.users.iter().flatten().all(|x| groups_there(t, x.groups))
-        && t.objects.iter().flatten().all(|x| groups_there(t, x.groups))
+        && t.objects
+            .iter()
+            .flatten()
+            .all(|x| groups_there(t, x.groups))
 }

@@ -11,17 +11,29 @@ impl<S: Scheme> View<'_, S> {
     fn range_stands(&self, x: &User) -> bool
         ensures { Decides result (RangeStands (S.Scheme.meaning self.now.scheme.now) x.now) }
     {
-        self.scheme.label(x.floor)
-            && self.scheme.label(x.top)
-            && self.scheme.flows(x.floor, x.top)
+        self.scheme.label(x.floor) && self.scheme.label(x.top) && self.scheme.flows(x.floor, x.top)
     }
 
     /// Are all labels labels of the scheme, and does each floor flow to its top?
     pub(crate) fn labels_hold(&self) -> bool
         ensures { Decides result (Labelled (S.Scheme.meaning self.now.scheme.now) self.now.tables.now) }
     {
-        self.tables.users.iter().flatten().all(|x| self.range_stands(x))
-            && self.tables.subjects.iter().flatten().all(|x| self.scheme.label(x.label))
-            && self.tables.objects.iter().flatten().all(|x| self.scheme.label(x.label))
+        self.tables
+            .users
+            .iter()
+            .flatten()
+            .all(|x| self.range_stands(x))
+            && self
+                .tables
+                .subjects
+                .iter()
+                .flatten()
+                .all(|x| self.scheme.label(x.label))
+            && self
+                .tables
+                .objects
+                .iter()
+                .flatten()
+                .all(|x| self.scheme.label(x.label))
     }
 }

@@ -8,5 +8,8 @@ use tables::types::{Kind, Tables};
 pub(crate) fn only_containers_mixed(t: &Tables) -> bool
     ensures { Decides result (MixedApart t.now) }
 {
-    t.objects.iter().flatten().all(|x| !x.mixed || x.kind == Kind::Container)
+    t.objects
+        .iter()
+        .flatten()
+        .all(|x| !x.mixed || x.kind == Kind::Container)
 }

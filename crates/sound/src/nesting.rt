@@ -48,9 +48,8 @@ impl<S: Scheme> View<'_, S> {
     fn holds_one(&self, o: u8, l: u64, x: u8) -> bool
         ensures { Decides result (Under self.now.tables.now x o → (S.Scheme.meaning self.now.scheme.now).hold l (object self.now.tables.now x).label ≡ true) }
     {
-        self.tables
-            .object(x)
-            .is_none_or(|y| !self.tables.lies_under(x, o) || self.scheme.holds(l, y.label))
+        self.tables.object(x).is_none_or(|y| !self.tables.lies_under(x, o)
+            || self.scheme.holds(l, y.label))
     }
 
     /// Does label `l` hold the label of every object under `o`?

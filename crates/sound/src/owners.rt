@@ -10,15 +10,15 @@ use tables::types::{Tables, USERS, User};
 fn holders_there(users: &[Option<User>; USERS], sets: &[Rights; USERS]) -> bool
     ensures { Decides result ((u : ℕ) → ((slice_index_or sets.now u no_rights).0 ≢ 0) → is_some (slice_index_or users.now u None) ≡ true) }
 {
-    sets.iter().zip(users).all(|(set, user)| set.0 == 0 || user.is_some())
+    sets.iter()
+        .zip(users)
+        .all(|(set, user)| set.0 == 0 || user.is_some())
 }
 
 /// Do owners, and users with rights on an object, exist?
 pub(crate) fn owners_exist(t: &Tables) -> bool
     ensures { Decides result (Owned t.now) }
 {
-    t.objects
-        .iter()
-        .flatten()
-        .all(|x| t.user(x.owner).is_some() && holders_there(&t.users, &x.rights))
+    t.objects.iter().flatten().all(|x| t.user(x.owner).is_some()
+        && holders_there(&t.users, &x.rights))
 }

@@ -1,6 +1,7 @@
 //! Are the tables sound, and if not, which clause fails first?
+ghost use Rattle.std.specs.Prelude.{Decides};
 ghost use Rattle.std.specs.Option.{MatchOption};
-ghost use Rattle.sound.specs.Sound.{Sound, FirstFailing};
+ghost use Rattle.sound.specs.Sound.{Holding, Sound, FirstFailing};
 
 use crate::administrators::administrator_exists;
 use crate::clauses::Clause;
@@ -13,34 +14,26 @@ use crate::views::View;
 use labels::Scheme;
 
 impl<S: Scheme> View<'_, S> {
+    /// Does this clause hold?
+    fn holds(&self, clause: Clause) -> bool
+        ensures { Decides result (Holding clause (S.Scheme.meaning self.now.scheme.now) self.now.tables.now) }
+    {
+        match clause {
+            Clause::Groups => groups_exist(self.tables),
+            Clause::Labels => self.labels_hold(),
+            Clause::Tree => tree_stands(self.tables),
+            Clause::Owners => owners_exist(self.tables),
+            Clause::Lists => lists_hold(self.tables),
+            Clause::Administrator => administrator_exists(self.tables),
+            Clause::Nesting => self.labels_nest(),
+            Clause::Mixed => only_containers_mixed(self.tables),
+        }
+    }
+
     /// The first clause of soundness that fails: none if the tables are sound.
     pub fn first_failing(&self) -> Option<Clause>
         ensures { MatchOption result (Sound (S.Scheme.meaning self.now.scheme.now) self.now.tables.now) (FirstFailing (S.Scheme.meaning self.now.scheme.now) self.now.tables.now) }
     {
-        if !groups_exist(self.tables) {
-            return Some(Clause::Groups);
-        }
-        if !self.labels_hold() {
-            return Some(Clause::Labels);
-        }
-        if !tree_stands(self.tables) {
-            return Some(Clause::Tree);
-        }
-        if !owners_exist(self.tables) {
-            return Some(Clause::Owners);
-        }
-        if !lists_hold(self.tables) {
-            return Some(Clause::Lists);
-        }
-        if !administrator_exists(self.tables) {
-            return Some(Clause::Administrator);
-        }
-        if !self.labels_nest() {
-            return Some(Clause::Nesting);
-        }
-        if !only_containers_mixed(self.tables) {
-            return Some(Clause::Mixed);
-        }
-        None
+        Clause::ALL.into_iter().find(|clause| !self.holds(*clause))
     }
 }

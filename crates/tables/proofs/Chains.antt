@@ -8,6 +8,7 @@ use Rattle.std.proofs.lemmas.Iterator.Adapters.{YieldsList-from_flatten}
 use Rattle.std.proofs.lemmas.Iterator.Consumers.{YieldsList-from_shown}
 use Rattle.std.proofs.lemmas.Iterator.{YieldsList-from_slice, YieldsList-from_range}
 use Rattle.std.proofs.iter.Yields.{fronts, nat_range_steps}
+use Rattle.std.specs.Array.Iter.{array_into_iter_items}
 use Rattle.std.specs.Bool.{MatchBool}
 use Rattle.std.specs.Fn.{Called}
 use Rattle.std.specs.Iterator.{YieldsThen}
@@ -26,11 +27,6 @@ decides false m sure off = ((λ e. absurd (false≢true e)), λ p. absurd (off m
 
 nth_number : (n k : ℕ) → k < n → get_or (range_with_len 0 n) k 0 ≡ k
 nth_number n k h = get_or-range_with_len 0 n k 0 h ∙ omega arith
-
--- what is decided of what an option holds is decided, where its being empty makes it so
-pub Decides-none_or : {A P : Type 0} {Of : A → Type 0} (o : Option A) (r : Bool) → MatchOption o (r ≡ true) Of → (o ≡ None → P) → ((x : A) → o ≡ Some x → Of x → Decides r P) → Decides r P
-Decides-none_or None r e empty full = ((λ _. empty refl), λ _. e)
-Decides-none_or (Some x) r e empty full = full x refl e
 
 -- `(0..n)` gives the numbers below n
 pub YieldsList-below : {s : Range ℕ} (n : ℕ) → s ≡ record { start = 0; end = n } → YieldsList nat_range_steps (λ x. x) s (range_with_len 0 n)
@@ -59,6 +55,11 @@ module _ {S A F : Type 0} {steps : S → Option A → S → Type 0} {v : A → �
       decides r (cases_from_any u f r P (λ k. P k → ⊥) ran gives has_it has_not)
       (λ some. (_, some.2 0))
       (λ none some. elim (cases_lt some.0 n) [ inl h ↦ none some.0 0 (omega arith) (omega arith) (subst P (sym (nth_number n some.0 h)) some.1) | inr h ↦ past some.0 h some.1 ])
+
+-- `array.into_iter()` gives the array's items
+pub YieldsList-from_array : {A : Type 0} {n : ℕ} {s : _} (l : List A) → array_into_iter_items {X = A} {n = n} s ≡ l
+    → YieldsList (λ s r t. MatchOption r ((length (array_into_iter_items {X = A} {n = n} s) ≡ 0) × (t ≡ s)) (λ x. array_into_iter_items s ≡ x ∷ array_into_iter_items t)) (λ x. x) s l
+YieldsList-from_array {s = s} l e = subst (YieldsList _ (λ x. x) s) e (YieldsList-from_shown _ (λ x. x) array_into_iter_items (λ s t p. p.0) (λ s x t p. p) s)
 
 -- what a slot gives, one after another: what it holds, or nothing
 module _ {A : Type 0} where

@@ -1,8 +1,6 @@
 -- Reading a table after a write. Assumes nothing.
-use Rattle.std.proofs.Common.{◌≡◌, ℕ, zero, suc, ◌<◌, true, List, [], ◌∷◌, map, length, get_or, set, is_some, Some, None, Option, unwrap_or, sym, refl, ap, ◌∙◌, subst, le_of_suc-le-suc, not-suc-le-zero, arith}
+use Rattle.std.proofs.Common.{◌≡◌, ℕ, zero, suc, ◌<◌, true, List, [], ◌∷◌, map, length, get_or, set, is_some, Some, None, Option, unwrap_or, refl, ap, subst, le_of_suc-le-suc, not-suc-le-zero, arith}
 use Rattle.std.proofs.lemmas.Bool.{false≢true}
-use Rattle.std.proofs.lemmas.List.{set-get_or}
-use Rattle.std.specs.Option.{option_map}
 
 module _ {A : Type 0} where
   -- a slot that holds something is within the table
@@ -15,11 +13,6 @@ module _ {A : Type 0} where
   pub filled : (o : Option A) (d : A) → is_some o ≡ true → o ≡ Some (unwrap_or o d)
   filled None d h = absurd (false≢true h)
   filled (Some x) d h = refl
-
-  -- to change what an empty slot holds changes nothing
-  pub empty_stays : (l : List (Option A)) (i : ℕ) (f : A → A) → None ≡ get_or l i None → l ≡ set l i (option_map f (get_or l i None))
-  empty_stays l i f e =
-      sym (ap (λ (v : Option A). set l i (option_map f v)) (sym e) ∙ ap (set l i) e ∙ set-get_or l i None)
 
   -- what holds of the new value, if it stands here, and of what stood here, holds of what stands here now
   pub at_put : (P : Option A → Type 0) (l : List (Option A)) (i j : ℕ) (v : Option A) → (i ≡ j → P v) → P (get_or l j None) → P (get_or (set l i v) j None)

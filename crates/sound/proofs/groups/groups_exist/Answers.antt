@@ -13,14 +13,14 @@ pub returns-else-all : goal.returns-else-all
 returns-else-all c =
     let t = c.args.t.now in
     let users = Decides-all_slots _ _ t.users blank_user _ (λ (x : User). GroupsThere t x.groups.0) c.all.ensures.ran
-        (YieldsList-from_slots _ t.users (λ x j b. (b.0, b.1)) (cc) (cc) (cc) cc) (λ x q k. search (rules, tests)) (λ x q k. search (rules, tests)) in
+    (YieldsList-from_slots _ t.users (λ x j b. (b.0, b.1)) (cc) (cc) (cc) cc) (λ x q k. search (rules, tests)) (λ x q k. search (rules, tests)) in
     ((λ e. absurd (both_ways _ c.if-all.false e)), λ h. users.1 h.users)
 
 pub returns-then-all : goal.returns-then-all
 returns-then-all c =
     let t = c.args.t.now in
     let users = Decides-all_slots _ _ t.users blank_user _ (λ (x : User). GroupsThere t x.groups.0) c.all.ensures.ran
-        (YieldsList-from_slots _ t.users (λ x j b. (b.0, b.1)) (cc) (cc) (cc) cc) (λ x q k. search (rules, tests)) (λ x q k. search (rules, tests)) in
+    (YieldsList-from_slots _ t.users (λ x j b. (b.0, b.1)) (cc) (cc) (cc) cc) (λ x q k. search (rules, tests)) (λ x q k. search (rules, tests)) in
     Decides-like _ (λ objects. record { users = users.0 c.if-all.true; objects = objects }) (λ h. h.objects)
     (Decides-all_slots _ _ t.objects blank_object _ (λ (x : Object). GroupsThere t x.groups.0) c.all-then-all.ensures.ran
-        (YieldsList-from_slots _ t.objects (λ x j b. (b.0, b.1)) (cc) (cc) (cc) cc) (λ x q k. search (rules, tests)) (λ x q k. search (rules, tests)))
+    (YieldsList-from_slots _ t.objects (λ x j b. (b.0, b.1)) (cc) (cc) (cc) cc) (λ x q k. search (rules, tests)) (λ x q k. search (rules, tests)))
