@@ -18,22 +18,9 @@ impl<S: Scheme> View<'_, S> {
     pub(crate) fn labels_hold(&self) -> bool
         ensures { Decides result (Labelled (S.Scheme.meaning self.now.scheme.now) self.now.tables.now) }
     {
-        self.tables
-            .users
-            .iter()
-            .flatten()
-            .all(|x| self.range_stands(x))
-            && self
-                .tables
-                .subjects
-                .iter()
-                .flatten()
-                .all(|x| self.scheme.label(x.label))
-            && self
-                .tables
-                .objects
-                .iter()
-                .flatten()
-                .all(|x| self.scheme.label(x.label))
+        let (scheme, t) = (self.scheme, self.tables);
+        t.users.iter().flatten().all(|x| self.range_stands(x))
+            && t.subjects.iter().flatten().all(|x| scheme.label(x.label))
+            && t.objects.iter().flatten().all(|x| scheme.label(x.label))
     }
 }
