@@ -1,4 +1,5 @@
 pub mod Bitwise
+pub mod Chains
 pub mod Climb
 pub mod Puts
 pub mod Same
