@@ -1,6 +1,9 @@
 //! The calls and their refusals.
 ghost use Rattle.std.specs.Prelude.{◌≡◌};
 ghost use Rattle.calls.specs.Refusals.{refusal_number, refusal_word};
+ghost use Rattle.calls.specs.declared.types.Refusal.TheVariants.{WrongKind};
+
+use tables::kinds::UnknownKind;
 
 /// A call with its arguments. Where a call has a `subject`, that subject makes it; `number` is the number that a new subject or object is to have.
 // Kept: a kind and a mask of rights are bytes here, since each byte may be asked and has its answer; a narrower type asks more of who calls.
@@ -115,5 +118,13 @@ impl Refusal {
             Refusal::WontNest => "won't nest",
             Refusal::StillRigged => "still rigged",
         }
+    }
+}
+
+impl From<UnknownKind> for Refusal {
+    ghost from_gives = { λ _ e. e ≡ WrongKind };
+
+    fn from(_kind: UnknownKind) -> Refusal {
+        Refusal::WrongKind
     }
 }
