@@ -20,8 +20,11 @@ pub(crate) fn label_of(t: &Tables, o: u8) -> u64
 fn holds_inside<S: Scheme>(v: &View<S>, o: u8, label: u64) -> bool
     ensures { Decides result (Unmixed v.now.tables.now o → HoldsUnder (S.Scheme.meaning v.now.scheme.now) v.now.tables.now o label) }
 {
-    match v.tables.object(o) {
-        Some(x) if x.kind == Kind::Container && !x.mixed => v.holds_under(o, label),
+    let Some(x) = v.tables.object(o) else {
+        return true;
+    };
+    match x.kind {
+        Kind::Container if !x.mixed => v.holds_under(o, label),
         _ => true,
     }
 }
