@@ -11,7 +11,7 @@ use Rattle.tables.specs.declared.types.Tables.{Tables}
 use Rattle.tables.specs.Rights.{HasRight}
 use Rattle.tables.specs.State.{user, subject, object, has_user, has_subject, has_object}
 use Rattle.tables.specs.Ways.{Under, Above}
-use Rattle.sound.specs.Nesting.{Unmixed, Holds, HeldAbove, HoldsUnder, InRange}
+use Rattle.sound.specs.Nesting.{Unmixed, HeldAbove, HoldsUnder, HeldOverAt, InRange}
 use Rattle.calls.specs.declared.types.Call.{Call}
 use Rattle.calls.specs.declared.types.Call.TheVariants.{Enter, Launch, Leave, Read, Write, Create, Delete, Move, Raise, Mix, Unmix, Rights, Allow, Bar}
 
@@ -79,11 +79,7 @@ flow m a b = must 7 (m.flow a b ≡ true)
 abbrev pub in_range : Meaning → User → ℕ → Ask
 in_range m u l = must 8 (InRange m u l)
 
--- 9, won't nest: each unmixed container that o lies under holds the label l
-abbrev pub HeldOverAt : Meaning → Tables → ℕ → ℕ → Type 0
-HeldOverAt m t o l = (a : ℕ) → Under t o a → Unmixed t a → Holds m t a l
-
--- each unmixed container that is q or above it holds the label of everything under o
+-- 9, won't nest: each unmixed container that is q or above it holds the label of everything under o
 abbrev pub AllHeldAbove : Meaning → Tables → ℕ → ℕ → Type 0
 AllHeldAbove m t o q = (x : ℕ) → Under t x o → HeldAbove m t q (object t x).label
 

@@ -1,17 +1,12 @@
 -- What each call sets once it is granted: what it names, and nothing else. Assumes nothing.
-use Rattle.std.specs.Prelude.{ℕ, zero, suc, true, false, cond, replicate, Some, None, ◌==◌}
-use Rattle.tables.specs.declared.types.Kind.{Kind}
-use Rattle.tables.specs.declared.types.Kind.TheVariants.{Container, File, Program}
+use Rattle.std.specs.Prelude.{ℕ, zero, suc, true, false, replicate, Some, None}
+use Rattle.tables.specs.Kinds.{kind_of}
 use Rattle.tables.specs.declared.types.Object.{Object}
 use Rattle.tables.specs.declared.types.Tables.{Tables}
 use Rattle.tables.specs.State.{subject, no_rights}
 use Rattle.tables.specs.Changes.{put_subject, put_object, at_user, at_object, moved, relabelled, remixed, regranted, listing, unlisting, without_object}
 use Rattle.calls.specs.declared.types.Call.{Call}
 use Rattle.calls.specs.declared.types.Call.TheVariants.{Enter, Launch, Leave, Read, Write, Create, Delete, Move, Raise, Mix, Unmix, Rights, Allow, Bar}
-
--- the kind that a number stands for
-abbrev pub kind_of : ℕ → Kind
-kind_of k = cond (k == 0) Container (cond (k == 1) File Program)
 
 -- the object that create makes for a user, under p, of kind k, labelled l: unmixed, with no groups or rights
 abbrev pub created : ℕ → ℕ → ℕ → ℕ → Object

@@ -1,29 +1,18 @@
 //! What a granted call changes.
 ghost use Rattle.std.specs.Prelude.{◌≡◌};
 ghost use Rattle.tables.specs.State.{subject as subject_of};
-ghost use Rattle.calls.specs.Effects.{kind_of, created, effect};
+ghost use Rattle.calls.specs.Effects.{created, effect};
 
 use crate::types::Call;
 use tables::sets::{GroupSet, Rights};
 use tables::types::{Kind, Object, Subject, Tables, USERS};
-
-/// The kind that a number stands for.
-fn kind_from(kind: u8) -> Kind
-    ensures { result ≡ kind_of kind }
-{
-    match kind {
-        0 => Kind::Container,
-        1 => Kind::File,
-        _ => Kind::Program,
-    }
-}
 
 /// The object that create makes.
 fn new_object(owner: u8, parent: u8, kind: u8, label: u64) -> Object
     ensures { result ≡ created owner parent kind label }
 {
     Object {
-        kind: kind_from(kind),
+        kind: Kind::try_from(kind).unwrap_or(Kind::Program),
         parent,
         owner,
         label,
@@ -37,16 +26,14 @@ fn new_object(owner: u8, parent: u8, kind: u8, label: u64) -> Object
 fn user_of(t: &Tables, subject: u8) -> u8
     ensures { result ≡ (subject_of t.now subject).user }
 {
-    match t.subject(subject) {
-        Some(s) => s.user,
-        None => 0,
-    }
+    t.subject(subject).map_or(0, |s| s.user)
 }
 
 /// Changes the tables as a granted call does.
 pub fn apply(t: &mut Tables, call: Call)
     ensures { t.new ≡ effect t.old call }
 {
+    // Kept: the calls are a closed set, and each sets something else: one match over the enum is the plain form.
     match call {
         Call::Enter {
             user,

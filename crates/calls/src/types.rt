@@ -1,8 +1,12 @@
 //! The calls and their refusals.
 ghost use Rattle.std.specs.Prelude.{◌≡◌};
 ghost use Rattle.calls.specs.Refusals.{refusal_number, refusal_word};
+ghost use Rattle.calls.specs.declared.types.Refusal.TheVariants.{WrongKind};
+
+use tables::kinds::UnknownKind;
 
 /// A call with its arguments. Where a call has a `subject`, that subject makes it; `number` is the number that a new subject or object is to have.
+// Kept: a kind and a mask of rights are bytes here, since each byte may be asked and has its answer; a narrower type asks more of who calls.
 #[derive(Clone, Copy)]
 pub enum Call {
     Enter {
@@ -77,16 +81,16 @@ pub enum Call {
 /// Why a call is refused, in the order in which the conditions are asked.
 #[derive(Clone, Copy, PartialEq, Eq)]
 pub enum Refusal {
-    NobodyThere,
-    SeatTaken,
-    NoLabel,
-    WrongKind,
-    NoRight,
-    NotListed,
-    WrongWay,
-    OutOfRange,
-    WontNest,
-    StillRigged,
+    NobodyThere = 1,
+    SeatTaken = 2,
+    NoLabel = 3,
+    WrongKind = 4,
+    NoRight = 5,
+    NotListed = 6,
+    WrongWay = 7,
+    OutOfRange = 8,
+    WontNest = 9,
+    StillRigged = 10,
 }
 
 impl Refusal {
@@ -94,21 +98,11 @@ impl Refusal {
     pub fn number(&self) -> u8
         ensures { result ≡ refusal_number self.now }
     {
-        match self {
-            Refusal::NobodyThere => 1,
-            Refusal::SeatTaken => 2,
-            Refusal::NoLabel => 3,
-            Refusal::WrongKind => 4,
-            Refusal::NoRight => 5,
-            Refusal::NotListed => 6,
-            Refusal::WrongWay => 7,
-            Refusal::OutOfRange => 8,
-            Refusal::WontNest => 9,
-            Refusal::StillRigged => 10,
-        }
+        *self as u8
     }
 
     /// The word for this refusal.
+    // Kept: nothing formats a refusal, so a Display beside this would be no plainer; the word is lent, and takes no memory.
     pub fn word(&self) -> &'static str
         ensures { result.now ≡ refusal_word self.now }
     {
@@ -124,5 +118,13 @@ impl Refusal {
             Refusal::WontNest => "won't nest",
             Refusal::StillRigged => "still rigged",
         }
+    }
+}
+
+impl From<UnknownKind> for Refusal {
+    ghost from_gives = { λ _ e. e ≡ WrongKind };
+
+    fn from(_kind: UnknownKind) -> Refusal {
+        Refusal::WrongKind
     }
 }

@@ -1,76 +1,37 @@
--- How marking a container as mixed or as unmixed goes: what is asked, one after another. Assumes nothing.
-use Rattle.std.proofs.Common.{◌≡◌, ℕ, true, false, List, [], ◌∷◌, Some, Decides, sym, refl}
+-- What refuses that a container is marked as mixed refuses that it is marked as unmixed. Assumes nothing.
+use Rattle.std.proofs.Common.{ℕ, ◌<◌, suc, arith}
 use Rattle.labels.specs.Meaning.{Meaning}
-use Rattle.tables.specs.declared.sets.Right.TheVariants.{WriteAttributes}
-use Rattle.tables.specs.declared.types.Kind.TheVariants.{Container}
-use Rattle.tables.specs.declared.types.Subject.{Subject}
-use Rattle.tables.specs.declared.types.Object.{Object}
 use Rattle.tables.specs.declared.types.Tables.{Tables}
-use Rattle.tables.specs.State.{subject, object, subject_at, object_at}
-use Rattle.tables.specs.Rights.{HasRight}
+use Rattle.tables.specs.State.{object}
 use Rattle.sound.specs.Nesting.{HoldsUnder}
 use Rattle.calls.specs.declared.types.Call.TheVariants.{Mix, Unmix}
-use Rattle.calls.specs.Calls.{Ask, must, knows_subject, knows_object, of_kind, right, flow, Answer}
-use Rattle.calls.proofs.Firsts.{Passed, later, grant}
-use Rattle.rules.proofs.Parties.{met, unmet, never}
-use Rattle.rules.proofs.Steps.{Refused, both, on, off}
+use Rattle.calls.specs.declared.types.Refusal.{Refusal}
+use Rattle.calls.specs.declared.types.Refusal.TheVariants.{NobodyThere, SeatTaken, NoLabel, WrongKind, NoRight, NotListed, WrongWay, OutOfRange, WontNest, StillRigged}
+use Rattle.calls.specs.Refusals.{refusal_number}
+use Rattle.calls.specs.Calls.{asks, Answer, FineAt}
 
-module _ (m : Meaning) (t : Tables) (s o : ℕ) {x : Subject} {y : Object} (es : Some x ≡ subject_at t s) (eo : Some y ≡ object_at t o) where
-  -- what both ask, and then the rest
-  abbrev flowing : List Ask → List Ask
-  flowing rest = flow m (subject t s).label (object t o).label ∷ rest
+module _ (m : Meaning) (t : Tables) (s o : ℕ) where
+  -- nothing of a mixed mark is asked under a number above 9
+  none_above : (w : ℕ) → 9 < w → FineAt w (asks m t (Mix s o))
+  none_above w big = ((λ e. absurd (omega arith)), ((λ e. absurd (omega arith)), ((λ e. absurd (omega arith)), ((λ e. absurd (omega arith)), ((λ e. absurd (omega arith)), tt)))))
 
-  abbrev righting : List Ask → List Ask
-  righting rest = right t s o WriteAttributes ∷ flowing rest
+  front : (w : ℕ) → FineAt w (asks m t (Unmix s o)) → FineAt w (asks m t (Mix s o))
+  front w f = (f.0, (f.1.0, (f.1.1.0, (f.1.1.1.0, (f.1.1.1.1.0, tt)))))
 
-  abbrev marking : List Ask → List Ask
-  marking rest = of_kind t o Container ∷ righting rest
+  neither : (w : ℕ) → Answer m t (Mix s o) (suc w) → Answer m t (Unmix s o) (suc w)
+  neither w a =
+      let b = a.0 in
+      let late : 9 < suc w → HoldsUnder m t o (object t o).label = λ lt. absurd (a.1 (none_above (suc w) lt)) in
+      ((b.0, (b.1.0, (b.1.1.0, (b.1.1.1.0, (b.1.1.1.1.0, (late, tt)))))), λ f. a.1 (front (suc w) f))
 
-  abbrev all : List Ask → List Ask
-  all rest = knows_subject t s ∷ knows_object t o ∷ marking rest
-
-  abbrev Flows : Subject → Object → Type 0
-  Flows a b = m.flow a.label b.label ≡ true
-
-  abbrev May : Subject → Object → Type 0
-  May a b = HasRight t a.user b WriteAttributes
-
-  abbrev Contains : Subject → Object → Type 0
-  Contains a b = b.kind ≡ Container
-
-  abbrev Held : Subject → Object → Type 0
-  Held a b = HoldsUnder m t o b.label
-
-  module _ (rest : List Ask) where
-    standing : Passed (all rest) (marking rest)
-    standing = both t s o es eo (marking rest)
-
-    contained : y.kind ≡ Container → Passed (all rest) (righting rest)
-    contained k = on t s o es eo Contains standing k
-
-    righted : y.kind ≡ Container → Decides true (May x y) → Passed (all rest) (flowing rest)
-    righted k r = on t s o es eo May (contained k) (met r)
-
-    flowed : y.kind ≡ Container → Decides true (May x y) → true ≡ m.flow x.label y.label → Passed (all rest) rest
-    flowed k r f = on t s o es eo Flows (righted k r) (sym f)
-
-    pub no_container : later 4 rest ≡ true → (y.kind ≡ Container → ⊥) → Refused 4 (all rest)
-    no_container e n = off t s o es eo 4 Contains standing e n
-
-    pub no_right : later 5 rest ≡ true → y.kind ≡ Container → Decides false (May x y) → Refused 5 (all rest)
-    no_right e k r = off t s o es eo 5 May (contained k) e (unmet r)
-
-    pub stopped : later 7 rest ≡ true → y.kind ≡ Container → Decides true (May x y) → false ≡ m.flow x.label y.label → Refused 7 (all rest)
-    stopped e k r f = off t s o es eo 7 Flows (righted k r) e (never f)
-
-  abbrev pub held : List Ask
-  held = must 9 (HoldsUnder m t o (object t o).label) ∷ []
-
-  pub mixed : y.kind ≡ Container → Decides true (May x y) → true ≡ m.flow x.label y.label → Answer m t (Mix s o) 0
-  mixed k r f = grant (flowed [] k r f)
-
-  pub not_held : y.kind ≡ Container → Decides true (May x y) → true ≡ m.flow x.label y.label → Decides false (HoldsUnder m t o y.label) → Answer m t (Unmix s o) 9
-  not_held k r f h = off t s o es eo 9 Held (flowed held k r f) refl (unmet h)
-
-  pub unmixed : y.kind ≡ Container → Decides true (May x y) → true ≡ m.flow x.label y.label → Decides true (HoldsUnder m t o y.label) → Answer m t (Unmix s o) 0
-  unmixed k r f h = grant (on t s o es eo Held (flowed held k r f) (met h))
+  pub refused_too : (e : Refusal) → Answer m t (Mix s o) (refusal_number e) → Answer m t (Unmix s o) (refusal_number e)
+  refused_too NobodyThere a = neither 0 a
+  refused_too SeatTaken a = neither 1 a
+  refused_too NoLabel a = neither 2 a
+  refused_too WrongKind a = neither 3 a
+  refused_too NoRight a = neither 4 a
+  refused_too NotListed a = neither 5 a
+  refused_too WrongWay a = neither 6 a
+  refused_too OutOfRange a = neither 7 a
+  refused_too WontNest a = neither 8 a
+  refused_too StillRigged a = neither 9 a

@@ -5,141 +5,104 @@ ghost use Rattle.sound.specs.Nesting.{InRange};
 ghost use Rattle.calls.specs.Calls.{Answer};
 ghost use Rattle.calls.specs.Refusals.{answer_number};
 
+use crate::named::parties;
 use calls::types::{Call, Refusal};
 use labels::Scheme;
+use sound::views::View;
 use tables::sets::Right;
-use tables::types::{Kind, SUBJECTS, Tables};
+use tables::types::{Kind, SUBJECTS};
+
+/// Is `label` in the range of `user`? One that does not exist has the range from 0 to 0.
+fn in_range<S: Scheme>(v: &View<S>, user: u8, label: u64) -> bool
+    ensures { Decides result (InRange (S.Scheme.meaning v.now.scheme.now) (user_of v.now.tables.now user) label) }
+{
+    let (floor, top) = v.tables.user(user).map_or((0, 0), |u| (u.floor, u.top));
+    v.scheme.flows(floor, label) && v.scheme.flows(label, top)
+}
 
 /// A user enters as a new subject.
-pub(crate) fn enter<S: Scheme>(
-    scheme: &S,
-    t: &Tables,
-    user: u8,
-    number: u8,
-    label: u64,
-) -> Result<(), Refusal>
-    ensures { Answer (S.Scheme.meaning scheme.now) t.now (Call.Enter user number label) (answer_number result) }
+pub(crate) fn enter<S: Scheme>(v: &View<S>, user: u8, number: u8, label: u64) -> Result<(), Refusal>
+    ensures { Answer (S.Scheme.meaning v.now.scheme.now) v.now.tables.now (Call.Enter user number label) (answer_number result) }
 {
-    let Some(u) = t.user(user) else {
-        return Err(Refusal::NobodyThere);
-    };
+    v.tables.user(user).ok_or(Refusal::NobodyThere)?;
     if number as usize >= SUBJECTS {
         return Err(Refusal::NobodyThere);
     }
-    if t.subject(number).is_some() {
+    if v.tables.subject(number).is_some() {
         return Err(Refusal::SeatTaken);
     }
-    if !scheme.label(label) {
+    if !v.scheme.label(label) {
         return Err(Refusal::NoLabel);
     }
-    if !scheme.flows(u.floor, label) || !scheme.flows(label, u.top) {
+    if !in_range(v, user, label) {
         return Err(Refusal::OutOfRange);
     }
     Ok(())
 }
 
 /// A subject leaves.
-pub(crate) fn leave<S: Scheme>(scheme: &S, t: &Tables, subject: u8) -> Result<(), Refusal>
-    ensures { Answer (S.Scheme.meaning scheme.now) t.now (Call.Leave subject) (answer_number result) }
+pub(crate) fn leave<S: Scheme>(v: &View<S>, subject: u8) -> Result<(), Refusal>
+    ensures { Answer (S.Scheme.meaning v.now.scheme.now) v.now.tables.now (Call.Leave subject) (answer_number result) }
 {
-    match t.subject(subject) {
-        Some(_) => Ok(()),
-        None => Err(Refusal::NobodyThere),
-    }
+    v.tables.subject(subject).ok_or(Refusal::NobodyThere)?;
+    Ok(())
 }
 
 /// A subject reads an object.
-pub(crate) fn read<S: Scheme>(
-    scheme: &S,
-    t: &Tables,
-    subject: u8,
-    object: u8,
-) -> Result<(), Refusal>
-    ensures { Answer (S.Scheme.meaning scheme.now) t.now (Call.Read subject object) (answer_number result) }
+pub(crate) fn read<S: Scheme>(v: &View<S>, subject: u8, object: u8) -> Result<(), Refusal>
+    ensures { Answer (S.Scheme.meaning v.now.scheme.now) v.now.tables.now (Call.Read subject object) (answer_number result) }
 {
-    let Some(s) = t.subject(subject) else {
-        return Err(Refusal::NobodyThere);
-    };
-    let Some(o) = t.object(object) else {
-        return Err(Refusal::NobodyThere);
-    };
-    if !t.has_right(s.user, o, Right::Read) {
+    let (s, o) = parties(v.tables, subject, object)?;
+    if !v.tables.has_right(s.user, o, Right::Read) {
         return Err(Refusal::NoRight);
     }
-    if !scheme.flows(o.label, s.label) {
+    if !v.scheme.flows(o.label, s.label) {
         return Err(Refusal::WrongWay);
     }
     Ok(())
 }
 
 /// A subject writes to a file.
-pub(crate) fn write<S: Scheme>(
-    scheme: &S,
-    t: &Tables,
-    subject: u8,
-    object: u8,
-) -> Result<(), Refusal>
-    ensures { Answer (S.Scheme.meaning scheme.now) t.now (Call.Write subject object) (answer_number result) }
+pub(crate) fn write<S: Scheme>(v: &View<S>, subject: u8, object: u8) -> Result<(), Refusal>
+    ensures { Answer (S.Scheme.meaning v.now.scheme.now) v.now.tables.now (Call.Write subject object) (answer_number result) }
 {
-    let Some(s) = t.subject(subject) else {
-        return Err(Refusal::NobodyThere);
-    };
-    let Some(o) = t.object(object) else {
-        return Err(Refusal::NobodyThere);
-    };
+    let (s, o) = parties(v.tables, subject, object)?;
     match o.kind {
-        Kind::File if !t.has_right(s.user, o, Right::Write) => Err(Refusal::NoRight),
-        Kind::File if !scheme.flows(s.label, o.label) => Err(Refusal::WrongWay),
+        Kind::File if !v.tables.has_right(s.user, o, Right::Write) => Err(Refusal::NoRight),
+        Kind::File if !v.scheme.flows(s.label, o.label) => Err(Refusal::WrongWay),
         Kind::File => Ok(()),
         _ => Err(Refusal::WrongKind),
     }
 }
 
-/// Is `label` in the range of `user`? One that does not exist has the range from 0 to 0.
-fn in_range<S: Scheme>(scheme: &S, t: &Tables, user: u8, label: u64) -> bool
-    ensures { Decides result (InRange (S.Scheme.meaning scheme.now) (user_of t.now user) label) }
-{
-    let (floor, top) = match t.user(user) {
-        Some(u) => (u.floor, u.top),
-        None => (0, 0),
-    };
-    scheme.flows(floor, label) && scheme.flows(label, top)
-}
-
 /// A subject launches a program as a new subject.
 pub(crate) fn launch<S: Scheme>(
-    scheme: &S,
-    t: &Tables,
+    v: &View<S>,
     subject: u8,
     program: u8,
     number: u8,
     label: u64,
 ) -> Result<(), Refusal>
-    ensures { Answer (S.Scheme.meaning scheme.now) t.now (Call.Launch subject program number label) (answer_number result) }
+    ensures { Answer (S.Scheme.meaning v.now.scheme.now) v.now.tables.now (Call.Launch subject program number label) (answer_number result) }
 {
-    let Some(s) = t.subject(subject) else {
-        return Err(Refusal::NobodyThere);
-    };
-    let Some(o) = t.object(program) else {
-        return Err(Refusal::NobodyThere);
-    };
+    let (s, o) = parties(v.tables, subject, program)?;
     if number as usize >= SUBJECTS {
         return Err(Refusal::NobodyThere);
     }
-    if t.subject(number).is_some() {
+    if v.tables.subject(number).is_some() {
         return Err(Refusal::SeatTaken);
     }
-    if !scheme.label(label) {
+    if !v.scheme.label(label) {
         return Err(Refusal::NoLabel);
     }
-    let listed = t.is_listed(s.user, program);
-    let admin = t.is_admin(s.user);
+    let listed = v.tables.is_listed(s.user, program);
+    let admin = v.tables.is_admin(s.user);
     match o.kind {
-        Kind::Program if !t.has_right(s.user, o, Right::Execute) => Err(Refusal::NoRight),
+        Kind::Program if !v.tables.has_right(s.user, o, Right::Execute) => Err(Refusal::NoRight),
         Kind::Program if !listed && !admin => Err(Refusal::NotListed),
-        Kind::Program if !scheme.flows(s.label, label) => Err(Refusal::WrongWay),
-        Kind::Program if !scheme.flows(o.label, label) => Err(Refusal::WrongWay),
-        Kind::Program if !in_range(scheme, t, s.user, label) => Err(Refusal::OutOfRange),
+        Kind::Program if !v.scheme.flows(s.label, label) => Err(Refusal::WrongWay),
+        Kind::Program if !v.scheme.flows(o.label, label) => Err(Refusal::WrongWay),
+        Kind::Program if !in_range(v, s.user, label) => Err(Refusal::OutOfRange),
         Kind::Program => Ok(()),
         _ => Err(Refusal::WrongKind),
     }

@@ -2,87 +2,63 @@
 ghost use Rattle.calls.specs.Calls.{Answer};
 ghost use Rattle.calls.specs.Refusals.{answer_number};
 
-use crate::nests::{held_over_at, holds_inside};
+use crate::named::parties;
+use crate::nests::{label_of, nests_at};
 use calls::types::{Call, Refusal};
 use labels::Scheme;
-use sound::nesting::holds_under;
+use sound::views::View;
 use tables::sets::Right;
-use tables::types::{Kind, Tables};
+use tables::types::Kind;
 
 /// A subject marks a container as mixed.
-pub(crate) fn mix<S: Scheme>(scheme: &S, t: &Tables, subject: u8, object: u8) -> Result<(), Refusal>
-    ensures { Answer (S.Scheme.meaning scheme.now) t.now (Call.Mix subject object) (answer_number result) }
+pub(crate) fn mix<S: Scheme>(v: &View<S>, subject: u8, object: u8) -> Result<(), Refusal>
+    ensures { Answer (S.Scheme.meaning v.now.scheme.now) v.now.tables.now (Call.Mix subject object) (answer_number result) }
 {
-    let Some(s) = t.subject(subject) else {
-        return Err(Refusal::NobodyThere);
-    };
-    let Some(o) = t.object(object) else {
-        return Err(Refusal::NobodyThere);
-    };
+    let (s, o) = parties(v.tables, subject, object)?;
     match o.kind {
-        Kind::Container if !t.has_right(s.user, o, Right::WriteAttributes) => Err(Refusal::NoRight),
-        Kind::Container if !scheme.flows(s.label, o.label) => Err(Refusal::WrongWay),
+        Kind::Container if !v.tables.has_right(s.user, o, Right::WriteAttributes) => {
+            Err(Refusal::NoRight)
+        }
+        Kind::Container if !v.scheme.flows(s.label, o.label) => Err(Refusal::WrongWay),
         Kind::Container => Ok(()),
         _ => Err(Refusal::WrongKind),
     }
 }
 
-/// A subject marks a container as unmixed.
-pub(crate) fn unmix<S: Scheme>(
-    scheme: &S,
-    t: &Tables,
-    subject: u8,
-    object: u8,
-) -> Result<(), Refusal>
-    ensures { Answer (S.Scheme.meaning scheme.now) t.now (Call.Unmix subject object) (answer_number result) }
+/// A subject marks a container as unmixed, which asks what marking it as mixed asks, and that it holds what lies under it.
+pub(crate) fn unmix<S: Scheme>(v: &View<S>, subject: u8, object: u8) -> Result<(), Refusal>
+    ensures { Answer (S.Scheme.meaning v.now.scheme.now) v.now.tables.now (Call.Unmix subject object) (answer_number result) }
 {
-    let Some(s) = t.subject(subject) else {
-        return Err(Refusal::NobodyThere);
-    };
-    let Some(o) = t.object(object) else {
-        return Err(Refusal::NobodyThere);
-    };
-    match o.kind {
-        Kind::Container if !t.has_right(s.user, o, Right::WriteAttributes) => Err(Refusal::NoRight),
-        Kind::Container if !scheme.flows(s.label, o.label) => Err(Refusal::WrongWay),
-        Kind::Container if !holds_under(scheme, t, object, o.label) => Err(Refusal::WontNest),
-        Kind::Container => Ok(()),
-        _ => Err(Refusal::WrongKind),
+    mix(v, subject, object)?;
+    if !v.holds_under(object, label_of(v.tables, object)) {
+        return Err(Refusal::WontNest);
     }
+    Ok(())
 }
 
 /// A subject gives an object another label.
 pub(crate) fn raise<S: Scheme>(
-    scheme: &S,
-    t: &Tables,
+    v: &View<S>,
     subject: u8,
     object: u8,
     label: u64,
 ) -> Result<(), Refusal>
-    ensures { Answer (S.Scheme.meaning scheme.now) t.now (Call.Raise subject object label) (answer_number result) }
+    ensures { Answer (S.Scheme.meaning v.now.scheme.now) v.now.tables.now (Call.Raise subject object label) (answer_number result) }
 {
-    let Some(s) = t.subject(subject) else {
-        return Err(Refusal::NobodyThere);
-    };
-    let Some(o) = t.object(object) else {
-        return Err(Refusal::NobodyThere);
-    };
-    if !scheme.label(label) {
+    let (s, o) = parties(v.tables, subject, object)?;
+    if !v.scheme.label(label) {
         return Err(Refusal::NoLabel);
     }
-    if !t.has_right(s.user, o, Right::WriteAttributes) {
+    if !v.tables.has_right(s.user, o, Right::WriteAttributes) {
         return Err(Refusal::NoRight);
     }
-    if !scheme.flows(s.label, o.label) {
+    if !v.scheme.flows(s.label, o.label) {
         return Err(Refusal::WrongWay);
     }
-    if !scheme.flows(o.label, label) {
+    if !v.scheme.flows(o.label, label) {
         return Err(Refusal::WrongWay);
     }
-    if !held_over_at(scheme, t, object, label) {
-        return Err(Refusal::WontNest);
-    }
-    if !holds_inside(scheme, t, object, label) {
+    if !nests_at(v, object, label) {
         return Err(Refusal::WontNest);
     }
     Ok(())

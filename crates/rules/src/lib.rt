@@ -7,5 +7,6 @@ mod access;
 mod attributes;
 pub mod decide;
 mod grants;
+mod named;
 mod nests;
 mod places;

@@ -3,78 +3,63 @@ ghost use Rattle.std.specs.Prelude.{◌≡◌, true, Decides};
 ghost use Rattle.calls.specs.Calls.{Answer};
 ghost use Rattle.calls.specs.Refusals.{answer_number};
 
+use crate::named::parties;
 use crate::nests::{fits_under, is_removable, label_of};
 use calls::types::{Call, Refusal};
 use labels::Scheme;
-use sound::nesting::held_above;
+use sound::views::View;
 use tables::sets::Right;
-use tables::types::{Kind, OBJECTS, Tables};
+use tables::types::{Kind, OBJECTS};
 
 /// A subject makes an object.
 pub(crate) fn create<S: Scheme>(
-    scheme: &S,
-    t: &Tables,
+    v: &View<S>,
     subject: u8,
     parent: u8,
     number: u8,
     kind: u8,
     label: u64,
 ) -> Result<(), Refusal>
-    ensures { Answer (S.Scheme.meaning scheme.now) t.now (Call.Create subject parent number kind label) (answer_number result) }
+    ensures { Answer (S.Scheme.meaning v.now.scheme.now) v.now.tables.now (Call.Create subject parent number kind label) (answer_number result) }
 {
-    let Some(s) = t.subject(subject) else {
-        return Err(Refusal::NobodyThere);
-    };
-    let Some(p) = t.object(parent) else {
-        return Err(Refusal::NobodyThere);
-    };
+    let (s, p) = parties(v.tables, subject, parent)?;
     if number as usize >= OBJECTS {
         return Err(Refusal::NobodyThere);
     }
-    if t.object(number).is_some() {
+    if v.tables.object(number).is_some() {
         return Err(Refusal::SeatTaken);
     }
-    if !scheme.label(label) {
+    if !v.scheme.label(label) {
         return Err(Refusal::NoLabel);
     }
-    let admin = t.is_admin(s.user);
+    let kind = Kind::try_from(kind)?;
+    let admin = v.tables.is_admin(s.user);
     match p.kind {
-        Kind::Container if kind > 2 => Err(Refusal::WrongKind),
-        Kind::Container if !t.has_right(s.user, p, Right::Create) => Err(Refusal::NoRight),
-        Kind::Container if kind == 2 && !admin => Err(Refusal::NotListed),
-        Kind::Container if !scheme.flows(s.label, label) => Err(Refusal::WrongWay),
-        Kind::Container if !scheme.flows(s.label, p.label) => Err(Refusal::WrongWay),
-        Kind::Container if !held_above(scheme, t, parent, label) => Err(Refusal::WontNest),
+        Kind::Container if !v.tables.has_right(s.user, p, Right::Create) => Err(Refusal::NoRight),
+        Kind::Container if kind == Kind::Program && !admin => Err(Refusal::NotListed),
+        Kind::Container if !v.scheme.flows(s.label, label) => Err(Refusal::WrongWay),
+        Kind::Container if !v.scheme.flows(s.label, p.label) => Err(Refusal::WrongWay),
+        Kind::Container if !v.held_above(parent, label) => Err(Refusal::WontNest),
         Kind::Container => Ok(()),
         _ => Err(Refusal::WrongKind),
     }
 }
 
 /// A subject takes an object away.
-pub(crate) fn delete<S: Scheme>(
-    scheme: &S,
-    t: &Tables,
-    subject: u8,
-    object: u8,
-) -> Result<(), Refusal>
-    ensures { Answer (S.Scheme.meaning scheme.now) t.now (Call.Delete subject object) (answer_number result) }
+pub(crate) fn delete<S: Scheme>(v: &View<S>, subject: u8, object: u8) -> Result<(), Refusal>
+    ensures { Answer (S.Scheme.meaning v.now.scheme.now) v.now.tables.now (Call.Delete subject object) (answer_number result) }
 {
-    let Some(s) = t.subject(subject) else {
-        return Err(Refusal::NobodyThere);
-    };
-    let Some(o) = t.object(object) else {
-        return Err(Refusal::NobodyThere);
-    };
-    if !t.has_right(s.user, o, Right::Delete) {
+    let (s, o) = parties(v.tables, subject, object)?;
+    if !v.tables.has_right(s.user, o, Right::Delete) {
         return Err(Refusal::NoRight);
     }
-    if !scheme.flows(s.label, o.label) {
+    if !v.scheme.flows(s.label, o.label) {
         return Err(Refusal::WrongWay);
     }
-    if !scheme.flows(s.label, label_of(t, o.parent)) {
+    if !v.scheme.flows(s.label, label_of(v.tables, o.parent)) {
         return Err(Refusal::WrongWay);
     }
-    if !is_removable(t, object) {
+    if !is_removable(v.tables, object) {
         return Err(Refusal::StillRigged);
     }
     Ok(())
@@ -92,33 +77,23 @@ fn flows_along<S: Scheme>(scheme: &S, from: u64, object: u64, old: u64, new: u64
 
 /// A subject puts an object under another parent.
 pub(crate) fn move_object<S: Scheme>(
-    scheme: &S,
-    t: &Tables,
+    v: &View<S>,
     subject: u8,
     object: u8,
     parent: u8,
 ) -> Result<(), Refusal>
-    ensures { Answer (S.Scheme.meaning scheme.now) t.now (Call.Move subject object parent) (answer_number result) }
+    ensures { Answer (S.Scheme.meaning v.now.scheme.now) v.now.tables.now (Call.Move subject object parent) (answer_number result) }
 {
-    let Some(s) = t.subject(subject) else {
-        return Err(Refusal::NobodyThere);
-    };
-    let Some(o) = t.object(object) else {
-        return Err(Refusal::NobodyThere);
-    };
-    let Some(q) = t.object(parent) else {
-        return Err(Refusal::NobodyThere);
-    };
-    let old = label_of(t, o.parent);
+    let (s, o) = parties(v.tables, subject, object)?;
+    let q = v.tables.object(parent).ok_or(Refusal::NobodyThere)?;
+    let old = label_of(v.tables, o.parent);
     match q.kind {
-        Kind::Container if !t.has_right(s.user, o, Right::Delete) => Err(Refusal::NoRight),
-        Kind::Container if !t.has_right(s.user, q, Right::Create) => Err(Refusal::NoRight),
-        Kind::Container if !flows_along(scheme, s.label, o.label, old, q.label) => {
+        Kind::Container if !v.tables.has_right(s.user, o, Right::Delete) => Err(Refusal::NoRight),
+        Kind::Container if !v.tables.has_right(s.user, q, Right::Create) => Err(Refusal::NoRight),
+        Kind::Container if !flows_along(v.scheme, s.label, o.label, old, q.label) => {
             Err(Refusal::WrongWay)
         }
-        Kind::Container if !fits_under(scheme, t, object, o.label, parent) => {
-            Err(Refusal::WontNest)
-        }
+        Kind::Container if !fits_under(v, object, o.label, parent) => { Err(Refusal::WontNest) }
         Kind::Container => Ok(()),
         _ => Err(Refusal::WrongKind),
     }

@@ -8,6 +8,7 @@ use calls::apply::apply;
 use calls::types::{Call, Refusal};
 use labels::Scheme;
 use rules::decide::decide;
+use sound::views::View;
 
 impl<S: Scheme> Guard<S> {
     /// Decides a call and, if it is granted, changes the tables as it says. A refused call changes nothing.
@@ -16,7 +17,11 @@ impl<S: Scheme> Guard<S> {
         ensures one { OneAnswer (S.Scheme.meaning self.old.scheme) }
         ensures scheme { self.new.scheme ≡ self.old.scheme }
     {
-        decide(&self.scheme, &self.tables, call)?;
+        let view = View {
+            scheme: &self.scheme,
+            tables: &self.tables,
+        };
+        decide(&view, call)?;
         apply(&mut self.tables, call);
         Ok(())
     }

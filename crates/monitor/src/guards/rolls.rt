@@ -11,7 +11,7 @@ use crate::faults::RollFault;
 use labels::Scheme;
 use roll::read_tables;
 use saving::{NoRoom, save};
-use sound::verdicts::first_failing;
+use sound::views::View;
 use tables::types::Tables;
 
 /// The tables that a roll says, where they are sound.
@@ -19,7 +19,11 @@ fn load_tables<S: Scheme>(scheme: &S, bytes: &[u8]) -> Result<Tables, RollFault>
     ensures { Tells (S.Scheme.meaning scheme.now) bytes.now result }
 {
     let tables = read_tables(bytes)?;
-    match first_failing(scheme, &tables) {
+    let view = View {
+        scheme,
+        tables: &tables,
+    };
+    match view.first_failing() {
         None => Ok(tables),
         Some(clause) => Err(RollFault::Unsound(clause, bytes.len())),
     }
