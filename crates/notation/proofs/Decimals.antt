@@ -1,5 +1,5 @@
 -- What `parse` reads, as what is written in decimal. Assumes nothing.
-use Rattle.std.proofs.Common.{◌≡◌, ℕ, ◌^◌, ◌<◌, ◌⊎◌, List, length, get_or, Ok, Err, decimal, Result, sym, ap, ◌∙◌, subst, inl, inr, arith, MatchOption}
+use Rattle.std.proofs.Common.{◌≡◌, ℕ, ◌^◌, ◌<◌, ◌⊎◌, List, length, get_or, Ok, Err, decimal, Option, Result, sym, ap, ◌∙◌, subst, inl, inr, arith, MatchOption}
 use Rattle.std.specs.Result.{OkIff, result_ok}
 use Rattle.std.specs.Str.Parse.{AllDigits, digits_value, ParsesUnsigned}
 use Rattle.std.specs.Int.{IsInRange}
@@ -45,7 +45,7 @@ reads_number bs r reads plain =
     )
 
 -- a number below 2^64, where it is one of 16 bits
-pub part_of : {E : Type 0} (bs : List ℕ) (k : ℕ) (r : Result ℕ E) → k < 2 ^ 64 → bs ≡ decimal k → OkIff r (k < 65536) k
-    → MatchOption (result_ok r) ((n : ℕ) → n < 65536 → bs ≡ decimal n → ⊥) (λ n. (n < 65536) × (bs ≡ decimal n))
-part_of bs k (Ok n) h e got = (subst (λ (v : ℕ). v < 65536) (sym got.1) got.0, e ∙ ap decimal (sym got.1))
-part_of bs k (Err d) h e got = λ n small f. got (let same = decimal_injective n k (omega arith) h (sym f ∙ e) in omega arith)
+pub part_of : {E : Type 0} (bs : List ℕ) (k : ℕ) (r : Result ℕ E) (o : Option ℕ) → o ≡ result_ok r → k < 2 ^ 64 → bs ≡ decimal k → OkIff r (k < 65536) k
+    → MatchOption o ((n : ℕ) → n < 65536 → bs ≡ decimal n → ⊥) (λ n. (n < 65536) × (bs ≡ decimal n))
+part_of bs k (Ok n) o is h e got = rw is (subst (λ (v : ℕ). v < 65536) (sym got.1) got.0, e ∙ ap decimal (sym got.1))
+part_of bs k (Err d) o is h e got = rw is (λ n small f. got (let same = decimal_injective n k (omega arith) h (sym f ∙ e) in omega arith))
