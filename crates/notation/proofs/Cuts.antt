@@ -10,13 +10,13 @@ use Rattle.notation.specs.Notation.{Small}
 use Rattle.notation.proofs.Decimals.{decimal_lacks}
 
 -- byte by byte
-lacks_first : (c b : ℕ) (bs : List ℕ) → Lacks c (b ∷ bs) → b ≡ c → ⊥
+pub lacks_first : (c b : ℕ) (bs : List ℕ) → Lacks c (b ∷ bs) → b ≡ c → ⊥
 lacks_first c b bs h e = h 0 (omega arith) e
 
-lacks_rest : (c b : ℕ) (bs : List ℕ) → Lacks c (b ∷ bs) → Lacks c bs
+pub lacks_rest : (c b : ℕ) (bs : List ℕ) → Lacks c (b ∷ bs) → Lacks c bs
 lacks_rest c b bs h i lt e = h (suc i) (omega arith) e
 
-lacks_more : (c b : ℕ) (bs : List ℕ) → (b ≡ c → ⊥) → Lacks c bs → Lacks c (b ∷ bs)
+pub lacks_more : (c b : ℕ) (bs : List ℕ) → (b ≡ c → ⊥) → Lacks c bs → Lacks c (b ∷ bs)
 lacks_more c b bs n h zero lt e = n e
 lacks_more c b bs n h (suc i) lt e = h i (omega arith) e
 
