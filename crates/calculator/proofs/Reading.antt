@@ -1,31 +1,53 @@
 -- The lines of a text, one after another. Assumes nothing.
-use Rattle.std.proofs.Common.{◌≡◌, ℕ, ◌<◌, ◌≤◌, List, [], ◌∷◌, ◌++◌, length, sym, refl, ap, ◌∙◌, subst, append_assoc, arith, length-append}
-use Rattle.calculator.specs.Replies.{Replies}
-use Rattle.notation.specs.Texts.{Lacks, Lines, none, last, more}
+use Rattle.std.proofs.Common.{◌≡◌, ℕ, ◌+◌, ◌<◌, ◌≤◌, List, [], ◌∷◌, ◌++◌, length, sym, refl, ap, ◌∙◌, subst, append_assoc, inl, inr, arith, true, false, cond, eqb}
+use Rattle.std.proofs.lemmas.Bool.{cases_eq, ne_eqb}
+use Rattle.notation.proofs.Cuts.{lacks_first, lacks_rest, lacks_more}
+use Rattle.notation.specs.Texts.{Lacks, Lines, none, last, more, before}
+use Rattle.calculator.specs.Lines.{lines_of}
+use Rattle.calculator.specs.Replies.{Replied, Replies}
 
-longer : (line rest : List ℕ) → length rest < length (line ++ (10 ∷ rest))
-longer line rest = omega (arith, length-append line (10 ∷ rest))
+-- the first line ends at the first newline
+pub lines_cut : (line rest : List ℕ) → Lacks 10 line → lines_of (line ++ (10 ∷ rest)) ≡ line ∷ lines_of rest
+lines_cut [] rest h = refl
+lines_cut (b ∷ line) rest h = rw (ne_eqb b 10 (lacks_first 10 b line h), lines_cut line rest (lacks_rest 10 b line h)) refl
 
-pub lines_of_none : {text : List ℕ} {lines : List (List ℕ)} → Lines text lines → length text ≡ 0 → lines ≡ []
-lines_of_none none e = refl
-lines_of_none (last lacks some) e = absurd (omega arith)
-lines_of_none (more {line} {rest} lacks ls) e = absurd (omega (arith, longer line rest))
+-- and without one it is all of the text
+pub lines_last : (line : List ℕ) → Lacks 10 line → 0 < length line → lines_of line ≡ line ∷ []
+lines_last [] h some = absurd (omega arith)
+lines_last (b ∷ []) h some = rw (ne_eqb b 10 (lacks_first 10 b [] h)) refl
+lines_last (b ∷ (a ∷ line)) h some =
+    rw (ne_eqb b 10 (lacks_first 10 b (a ∷ line) h), lines_last (a ∷ line) (lacks_rest 10 b (a ∷ line) h) (omega arith)) refl
 
--- a line that ends at a newline
-pub one_more : (text line rest : List ℕ) → Lacks 10 line → text ≡ line ++ (10 ∷ rest) → (lines : List (List ℕ)) → Lines rest lines → Lines text (line ∷ lines)
-one_more text line rest lacks e lines ls = subst (λ (t : List ℕ). Lines t (line ∷ lines)) (sym e) (more lacks ls)
+-- these are the lines of the text
+longer_first : (b : ℕ) {bs : List ℕ} {lines : List (List ℕ)} → (b ≡ 10 → ⊥) → Lines bs lines → Lines (b ∷ bs) (before b lines)
+longer_first b n none = last (lacks_more 10 b [] n (λ i lt. absurd (omega arith))) (omega arith)
+longer_first b n (last {line} lacks some) = last (lacks_more 10 b line n lacks) (omega arith)
+longer_first b n (more {line} lacks ls) = more (lacks_more 10 b line n lacks) ls
 
-pub rest_shorter : (text line rest : List ℕ) → text ≡ line ++ (10 ∷ rest) → length rest < length text
-rest_shorter text line rest e = subst (λ (t : List ℕ). length rest < length t) (sym e) (longer line rest)
+pub are_lines : (text : List ℕ) → Lines text (lines_of text)
+are_lines [] = none
+are_lines (b ∷ bs) =
+    elim (cases_eq b 10) [
+      | inl e ↦ rw (e) (more {line = []} (λ i lt. absurd (omega arith)) (are_lines bs))
+      | inr n ↦ rw (ne_eqb b 10 n) (longer_first b n (are_lines bs))
+    ]
 
--- and one that ends with the text
-pub one_last : (text : List ℕ) → Lacks 10 text → 0 < length text → (lines : List (List ℕ)) → Lines [] lines → Lines text (text ∷ lines)
-one_last text lacks some lines ls = subst (λ (l : List (List ℕ)). Lines text (text ∷ l)) (sym (lines_of_none ls refl)) (last lacks some)
+before_longer : (b : ℕ) (lines : List (List ℕ)) → length (before b lines) ≤ 1 + length lines
+before_longer b [] = omega arith
+before_longer b (line ∷ lines) = omega arith
 
-pub lines_empty : (text : List ℕ) → length text ≤ 0 → Lines text []
-lines_empty [] h = none
-lines_empty (b ∷ bs) h = absurd (omega arith)
+-- there are no more of them than bytes
+pub lines_few : (text : List ℕ) → length (lines_of text) ≤ length text
+lines_few [] = omega arith
+lines_few (b ∷ bs) =
+    let few = lines_few bs in
+    elim (eqb b 10) as (λ t. length (cond t ([] ∷ lines_of bs) (before b (lines_of bs))) ≤ length (b ∷ bs)) [ true ↦ omega (arith, few) | false ↦ omega (arith, few, before_longer b (lines_of bs)) ]
 
--- a reply that is put behind what is already written
+-- a reply to the first of the lines that are left, and one that is put behind what is already written
+pub replies_first : (n : ℕ) {m k : ℕ} (line : List ℕ) {lines left : List (List ℕ)} (reply out : List ℕ) → left ≡ line ∷ lines → m ≡ n → k ≡ n + 1 → Replied (m + 1) line reply → Replies k lines out
+    → Replies n left (reply ++ out)
+replies_first n line {lines = lines} reply out e f g replied rest =
+    rw e (reply, out, refl, subst (λ (v : ℕ). Replied (v + 1) line reply) f replied, subst (λ (v : ℕ). Replies v lines out) g rest)
+
 pub replies_after : (out reply rest : List ℕ) {after added : List ℕ} (lines : List (List ℕ)) → after ≡ out ++ added → added ≡ reply → Replies 0 lines (out ++ (reply ++ rest)) → Replies 0 lines (after ++ rest)
 replies_after out reply rest lines e is = subst (Replies 0 lines) (sym (append_assoc out reply rest) ∙ ap (λ (bs : List ℕ). bs ++ rest) (sym (e ∙ ap (λ (bs : List ℕ). out ++ bs) is)))

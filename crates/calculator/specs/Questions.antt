@@ -18,6 +18,14 @@ called_ask ask.Holds = codes "holds"
 called_ask ask.Number = codes "number"
 called_ask ask.Parts = codes "parts"
 
+-- the label scheme that a question is about
+abbrev pub scheme_of : Question → SchemeName
+scheme_of (question.Label k a) = k
+scheme_of (question.Flows k a b) = k
+scheme_of (question.Holds k p c) = k
+scheme_of (question.Number k a) = k
+scheme_of (question.Parts k a) = k
+
 -- word number i of a line; a word that is missing is empty
 abbrev pub word : List (List ℕ) → ℕ → List ℕ
 word ws i = slice_index_or ws i []

@@ -1,7 +1,6 @@
 -- What is replied to a line, and to a whole text. Assumes nothing.
 use Rattle.std.specs.Prelude.{◌≡◌, ℕ, ◌+◌, cond, List, [], ◌∷◌, ◌++◌, Ok, Err, codes, decimal, Result}
-use Rattle.labels.specs.declared.houses.Parts.{Parts}
-use Rattle.labels.specs.House.{secrecy, secrecy_categories, trust, trust_categories}
+use Rattle.labels.specs.Parts.{parts_of, notation}
 use Rattle.notation.specs.declared.schemes.SchemeName.TheVariants as scheme
 use Rattle.calculator.specs.declared.questions.Question.{Question}
 use Rattle.calculator.specs.declared.questions.Question.TheVariants as question
@@ -9,11 +8,8 @@ use Rattle.calculator.specs.declared.questions.Fault.{Fault}
 use Rattle.calculator.specs.declared.questions.Fault.TheVariants as fault
 use Rattle.calculator.specs.declared.replies.Reply.{Reply}
 use Rattle.calculator.specs.declared.replies.Reply.TheVariants as reply
-use Rattle.notation.specs.Notation.{notation, meaning_of}
+use Rattle.notation.specs.Notation.{meaning_of}
 use Rattle.calculator.specs.Questions.{Understood}
-
-abbrev pub parts_of : ℕ → Parts
-parts_of n = record { secrecy = secrecy n; secrecy_categories = secrecy_categories n; trust = trust n; trust_categories = trust_categories n }
 
 -- the answer to a question; the old label has one part
 abbrev pub reply_to : Question → Reply

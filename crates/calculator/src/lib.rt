@@ -1,9 +1,10 @@
 //! Questions about labels as lines of text, and the replies to them.
 #![tactic(auto)]
 
+mod lines;
 mod questions;
 mod replies;
 
-pub use questions::reads::{read_ask, read_question};
+pub use questions::reads::read_question;
 pub use questions::{Ask, Fault, Question};
 pub use replies::{Reply, answer, reply_all, reply_line};

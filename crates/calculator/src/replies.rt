@@ -1,12 +1,15 @@
 //! Replies to questions, to lines and to whole texts.
-ghost use Rattle.std.specs.Prelude.{◌≡◌, ℕ, ◌<◌, List, ◌∷◌, length, IfOk, Some as Text, string_bytes};
+ghost use Rattle.std.specs.Prelude.{◌≡◌, ℕ, List, IfOk, Some as Text, string_bytes};
 ghost use Rattle.calculator.specs.Replies.{reply_to, reply_text, fault_text, Replied, Replies};
-ghost use Rattle.notation.specs.Texts.{Lines};
+ghost use Rattle.calculator.specs.Questions.{scheme_of};
+ghost use Rattle.notation.specs.Notation.{meaning_of};
+ghost use Rattle.notation.specs.Texts.{Lines as AreLines};
 
+use crate::lines::Lines;
 use crate::questions::reads::read_question;
 use crate::questions::{Fault, Question};
 use labels::{Parts, Scheme, house_label, old_label};
-use notation::{SchemeName, split_once};
+use notation::SchemeName;
 use std::alloc::{AllocError, Global};
 use std::fmt;
 
@@ -25,11 +28,7 @@ impl fmt::Display for Reply {
             Reply::Truth(true) => f.write_str("yes"),
             Reply::Truth(false) => f.write_str("no"),
             Reply::Number(n) => write!(f, "{n}"),
-            Reply::Parts(p) => {
-                let (a, b) = (p.secrecy, p.secrecy_categories);
-                let (c, d) = (p.trust, p.trust_categories);
-                write!(f, "{a},{b};{c},{d}")
-            }
+            Reply::Parts(p) => write!(f, "{p}"),
         }
     }
 }
@@ -64,16 +63,22 @@ impl fmt::Display for Fault {
 pub fn answer(question: Question) -> Reply
     ensures { result ≡ reply_to question }
 {
+    match question.scheme() {
+        SchemeName::House => answer_by(&house_label(), question),
+        SchemeName::Old => answer_by(&old_label(), question),
+    }
+}
+
+/// The answer to a question by a label scheme, the one that the question names.
+fn answer_by<S: Scheme>(scheme: &S, question: Question) -> Reply
+    ensures { S.Scheme.meaning scheme.now ≡ meaning_of (scheme_of question) → result ≡ reply_to question }
+{
     match question {
-        Question::Label(SchemeName::House, a) => Reply::Truth(house_label().label(a)),
-        Question::Label(SchemeName::Old, a) => Reply::Truth(old_label().label(a)),
-        Question::Flows(SchemeName::House, a, b) => Reply::Truth(house_label().flows(a, b)),
-        Question::Flows(SchemeName::Old, a, b) => Reply::Truth(old_label().flows(a, b)),
-        Question::Holds(SchemeName::House, p, c) => Reply::Truth(house_label().holds(p, c)),
-        Question::Holds(SchemeName::Old, p, c) => Reply::Truth(old_label().holds(p, c)),
-        Question::Number(_, a) => Reply::Number(a),
-        Question::Parts(SchemeName::House, a) => Reply::Parts(Parts::of(a)),
-        Question::Parts(SchemeName::Old, a) => Reply::Number(a),
+        Question::Label(_, a) => Reply::Truth(scheme.label(a)),
+        Question::Flows(_, a, b) => Reply::Truth(scheme.flows(a, b)),
+        Question::Holds(_, p, c) => Reply::Truth(scheme.holds(p, c)),
+        Question::Parts(SchemeName::House, a) => Reply::Parts(Parts::from(a)),
+        Question::Number(_, a) | Question::Parts(SchemeName::Old, a) => Reply::Number(a),
     }
 }
 
@@ -92,28 +97,12 @@ pub fn reply_line(heap: Global, number: u64, line: &[u8]) -> Result<String, Allo
 
 /// What is printed for a text: a reply to each of its lines, in their order.
 pub fn reply_all(heap: Global, text: &[u8]) -> Result<String, AllocError>
-    ensures { IfOk result (λ s. (lines : List (List ℕ)) × Lines text.now lines × Replies 0 lines (string_bytes s)) }
+    ensures { IfOk result (λ s. (lines : List (List ℕ)) × AreLines text.now lines × Replies 0 lines (string_bytes s)) }
 {
     let mut out = String::new(heap);
-    let mut rest = text;
-    let mut done: u64 = 0;
-    while rest.len() > 0 {
-        let (line, after) = first_line(rest);
-        let reply = reply_line(heap, done + 1, line)?;
+    for (i, line) in Lines::new(text).enumerate() {
+        let reply = reply_line(heap, i as u64 + 1, line)?;
         out.push_str(reply.as_str())?;
-        rest = after;
-        done += 1;
     }
     Ok(out)
-}
-
-/// The first line of a text, and what follows it.
-fn first_line(text: &[u8]) -> (&[u8], &[u8])
-    ensures shorter { 0 < length text.now → length result.1.now < length text.now }
-    ensures first { 0 < length text.now → (lines : List (List ℕ)) → Lines result.1.now lines → Lines text.now (result.0.now ∷ lines) }
-{
-    match split_once(text, b'\n') {
-        Some((line, rest)) => (line, rest),
-        None => (text, b""),
-    }
 }

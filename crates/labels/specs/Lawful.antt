@@ -1,8 +1,11 @@
--- The laws of a relation asked of labels alone, of a scheme that is turned, and of a pair. Assumes nothing.
-use Rattle.std.specs.Prelude.{◌≡◌, ℕ, ◌/◌, ◌%◌, ◌^◌, Bool, true, ◌&&◌, nat_lt}
-use Rattle.std.proofs.lemmas.Bool.{and_parts, and_from, ltb-true}
+-- The laws of the four schemes. Assumes nothing.
+use Rattle.std.specs.Prelude.{◌≡◌, ℕ, ◌/◌, ◌%◌, ◌^◌, ◌<◌, ◌≤◌, Bool, true, ◌&&◌, nat_le, nat_lt}
+use Rattle.std.proofs.Common.{arith}
+use Rattle.std.proofs.Math.Pow.{pow_mono}
+use Rattle.std.proofs.lemmas.Bool.{and_parts, and_from, leb-true, le-leb, ltb-true}
 use Rattle.labels.specs.Meaning.{Meaning, Ordered, Lawful}
-use Rattle.labels.specs.Schemes.{turned, pair, both}
+use Rattle.labels.specs.Schemes.{among, within, level, categories, turned, pair, both}
+use Rattle.labels.specs.Subsets.{within_self, within_through}
 
 opposite : {label : ℕ → Bool} {to : ℕ → ℕ → Bool} → Ordered label to → Ordered label (λ a b. to b a)
 opposite o = record {
@@ -21,6 +24,38 @@ three_parts x y z e = let p = and_parts x (y && z) e in let q = and_parts y z p.
 
 from_three : (x y z : Bool) → x ≡ true → y ≡ true → z ≡ true → (x && (y && z)) ≡ true
 from_three x y z p q r = and_from x (y && z) p (and_from y z q r)
+
+-- a relation asked of labels alone
+among_ordered : (label : ℕ → Bool) (to : ℕ → ℕ → Bool) → ((a : ℕ) → to a a ≡ true) → ((a b c : ℕ) → to a b ≡ true → to b c ≡ true → to a c ≡ true) → Ordered label (among label to)
+among_ordered label to itself onward = record {
+  first = λ a b e. (three_parts (label a) (label b) (to a b) e).0;
+  second = λ a b e. (three_parts (label a) (label b) (to a b) e).1;
+  itself = λ a e. from_three (label a) (label a) (to a a) e e (itself a);
+  onward = λ a b c e f.
+      let p = three_parts (label a) (label b) (to a b) e in
+      let q = three_parts (label b) (label c) (to b c) f in
+      from_three (label a) (label c) (to a c) p.0 q.1 (onward a b c p.2 q.2);
+}
+
+le_itself : (a : ℕ) → nat_le a a ≡ true
+le_itself a = le-leb a a (omega arith)
+
+le_onward : (a b c : ℕ) → nat_le a b ≡ true → nat_le b c ≡ true → nat_le a c ≡ true
+le_onward a b c e f = le-leb a c (omega (arith, leb-true a b e, leb-true b c f))
+
+pub level_lawful : (m : ℕ) → m < 65536 → Lawful (level m)
+level_lawful m h = record {
+  small = λ a e. omega (arith, h, leb-true a m e);
+  flowing = among_ordered (λ a. nat_le a m) nat_le le_itself le_onward;
+  holding = among_ordered (λ a. nat_le a m) (λ p c. nat_le c p) le_itself (λ a b c p q. le_onward c b a q p);
+}
+
+pub categories_lawful : (k : ℕ) → k ≤ 32 → Lawful (categories k)
+categories_lawful k h = record {
+  small = λ a e. let top : 2 ^ k ≤ 2 ^ 32 = pow_mono h in omega (arith, ltb-true a (2 ^ k) e, top);
+  flowing = among_ordered (λ a. nat_lt a (2 ^ k)) within within_self within_through;
+  holding = among_ordered (λ a. nat_lt a (2 ^ k)) (λ p c. within c p) within_self (λ a b c p q. within_through c b a q p);
+}
 
 -- a relation that both parts of two numbers have
 module _ (k : ℕ) {label above : ℕ → Bool} {to over : ℕ → ℕ → Bool} (low : Ordered label to) (high : Ordered above over) where

@@ -2,6 +2,7 @@ pub mod Meaning
 pub mod Schemes
 pub mod Built
 pub mod House
+pub mod Parts
 pub mod Old
 pub mod Marked
 pub mod Lawful

@@ -1,5 +1,5 @@
 -- The meanings of the four schemes. Assumes nothing.
-use Rattle.std.specs.Prelude.{◌≡◌, ℕ, ◌/◌, ◌%◌, ◌^◌, ◌<◌, Bool, ◌&&◌, ltb, leb, Decides, ◌==◌, bit_and, nat_le, nat_lt}
+use Rattle.std.specs.Prelude.{◌≡◌, ℕ, ◌/◌, ◌%◌, ◌^◌, ◌<◌, Bool, ◌&&◌, Decides, ◌==◌, bit_and, nat_le, nat_lt}
 use Rattle.labels.specs.Meaning.{Meaning}
 
 -- a relation asked of labels alone: of any other number it answers no
@@ -10,8 +10,8 @@ among label to a b = label a && (label b && to a b)
 abbrev pub level : ℕ → Meaning
 level m = record {
   label = λ a. nat_le a m;
-  flow = among (λ a. leb a m) leb;
-  hold = among (λ a. leb a m) (λ p c. leb c p);
+  flow = among (λ a. nat_le a m) nat_le;
+  hold = among (λ a. nat_le a m) (λ p c. nat_le c p);
 }
 
 -- b has all of a's categories
@@ -22,8 +22,8 @@ within a b = bit_and a b == a
 abbrev pub categories : ℕ → Meaning
 categories k = record {
   label = λ a. nat_lt a (2 ^ k);
-  flow = among (λ a. ltb a (2 ^ k)) within;
-  hold = among (λ a. ltb a (2 ^ k)) (λ p c. within c p);
+  flow = among (λ a. nat_lt a (2 ^ k)) within;
+  hold = among (λ a. nat_lt a (2 ^ k)) (λ p c. within c p);
 }
 
 -- Turned: the labels and the holding of the scheme below, with its flow the other way.
@@ -32,7 +32,7 @@ turned m = record { label = m.label; flow = λ a b. m.flow b a; hold = m.hold }
 
 -- a relation that both parts of two numbers must have, where the low part is the remainder by 2 ^ c and the high part the quotient
 abbrev pub both : ℕ → (ℕ → ℕ → Bool) → (ℕ → ℕ → Bool) → ℕ → ℕ → Bool
-both c low high = among (λ a. ltb a (2 ^ 64)) (λ a b. low (a % 2 ^ c) (b % 2 ^ c) && high (a / 2 ^ c) (b / 2 ^ c))
+both c low high = among (λ a. nat_lt a (2 ^ 64)) (λ a b. low (a % 2 ^ c) (b % 2 ^ c) && high (a / 2 ^ c) (b / 2 ^ c))
 
 -- Pair: label, flow and holding each need both parts.
 abbrev pub pair : ℕ → Meaning → Meaning → Meaning

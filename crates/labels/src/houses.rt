@@ -1,13 +1,15 @@
 //! The house label: secrecy below, trust above, each a level and a set of categories.
-ghost use Rattle.std.specs.Prelude.{◌≡◌};
+ghost use Rattle.std.specs.Prelude.{◌≡◌, Some as Text};
 ghost use Rattle.labels.specs.Built.{level_of, categories_of, turned_of, pair_of, house_of};
 ghost use Rattle.labels.specs.Schemes.{level, categories, turned, pair};
-ghost use Rattle.labels.specs.House.{house, numbered, secrecy as secrecy_in, secrecy_categories, trust as trust_in, trust_categories, AnswersByParts};
+ghost use Rattle.labels.specs.House.{house, AnswersByParts};
+ghost use Rattle.labels.specs.Parts.{number, notation, ArePartsOf};
 
 use crate::levels::Level;
 use crate::pairs::Pair;
 use crate::sets::Categories;
 use crate::turns::Turned;
+use std::fmt;
 
 pub type House = Pair<Pair<Level, Categories>, Pair<Turned<Level>, Turned<Categories>>>;
 
@@ -17,6 +19,10 @@ const TOP_LEVEL: u16 = 2;
 const CATEGORIES: u32 = 8;
 /// Each of the four parts of a number has so many bits.
 const PART: u32 = 16;
+/// The numbers below this have one part.
+const PART_END: u64 = 1 << PART;
+/// The numbers below this have two parts, those of one side.
+const SIDE_END: u64 = 1 << (2 * PART);
 
 pub fn house_label() -> House
     ensures meaning { house_of result ≡ house }
@@ -54,29 +60,37 @@ pub struct Parts {
     pub trust_categories: u16,
 }
 
-impl Parts {
-    /// The parts of a number.
-    pub fn of(n: u64) -> Parts
-        ensures secrecy { result.secrecy ≡ secrecy_in n }
-        ensures secrecy_categories { result.secrecy_categories ≡ secrecy_categories n }
-        ensures trust { result.trust ≡ trust_in n }
-        ensures trust_categories { result.trust_categories ≡ trust_categories n }
-        ensures back { numbered result.secrecy result.secrecy_categories result.trust result.trust_categories ≡ n }
-    {
+impl From<u64> for Parts {
+    ghost from_gives = { ArePartsOf };
+
+    fn from(n: u64) -> Parts {
+        let (low, high) = (n % SIDE_END, n / SIDE_END);
         Parts {
-            secrecy: (n % 65536) as u16,
-            secrecy_categories: (n / 65536 % 65536) as u16,
-            trust: (n / 4294967296 % 65536) as u16,
-            trust_categories: (n / 281474976710656) as u16,
+            secrecy: (low % PART_END) as u16,
+            secrecy_categories: (low / PART_END) as u16,
+            trust: (high % PART_END) as u16,
+            trust_categories: (high / PART_END) as u16,
         }
     }
+}
 
-    /// The number with these parts.
-    pub fn number(&self) -> u64
-        ensures { result ≡ numbered self.now.secrecy self.now.secrecy_categories self.now.trust self.now.trust_categories }
-    {
-        let low = u64::from(self.secrecy) + 65536 * u64::from(self.secrecy_categories);
-        let high = u64::from(self.trust) + 65536 * u64::from(self.trust_categories);
-        low + 4294967296 * high
+impl From<Parts> for u64 {
+    ghost from_gives = { λ p n. n ≡ number p };
+
+    fn from(p: Parts) -> u64 {
+        let low = u64::from(p.secrecy) + PART_END * u64::from(p.secrecy_categories);
+        let high = u64::from(p.trust) + PART_END * u64::from(p.trust_categories);
+        low + SIDE_END * high
+    }
+}
+
+/// A label, written `a,b;c,d`.
+impl fmt::Display for Parts {
+    ghost output = { λ p. Text (notation p) };
+
+    fn fmt<W: fmt::Write>(&self, f: &mut fmt::Formatter<W>) -> fmt::Result {
+        let (a, b) = (self.secrecy, self.secrecy_categories);
+        let (c, d) = (self.trust, self.trust_categories);
+        write!(f, "{a},{b};{c},{d}")
     }
 }

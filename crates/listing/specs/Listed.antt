@@ -1,8 +1,6 @@
 -- What is printed of the tables: a line for each entry. Assumes nothing.
 use Rattle.std.specs.Prelude.{ℕ, zero, suc, ◌+◌, cond, List, [], ◌∷◌, ◌++◌, Some, None, codes, decimal, Option, ◌==◌, slice_index_or}
-use Rattle.labels.specs.declared.houses.Parts.{Parts}
-use Rattle.labels.specs.House.{secrecy, secrecy_categories, trust, trust_categories}
-use Rattle.notation.specs.Notation.{notation}
+use Rattle.labels.specs.Parts.{parts_of, notation}
 use Rattle.tables.specs.declared.sets.Right.{Right}
 use Rattle.tables.specs.declared.sets.Right.TheVariants as right
 use Rattle.tables.specs.declared.sets.Rights.{Rights}
@@ -19,9 +17,6 @@ each f zero = []
 each f (suc k) = each f k ++ f k
 
 -- a label in the house notation
-abbrev pub parts_of : ℕ → Parts
-parts_of n = record { secrecy = secrecy n; secrecy_categories = secrecy_categories n; trust = trust n; trust_categories = trust_categories n }
-
 abbrev pub label_text : ℕ → List ℕ
 label_text n = notation (parts_of n)
 

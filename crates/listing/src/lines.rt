@@ -2,8 +2,9 @@
 ghost use Rattle.std.specs.Prelude.{◌≡◌, IfOk, string_bytes, codes};
 ghost use Rattle.listing.specs.Listed.{each, line_of_user, line_of_group, text_of_object, line_of_object, grant_text, indent as indent_text, members_text};
 
-use crate::sets::{Label, append, members, rights_text};
+use crate::sets::{append, members, rights_text};
 use crate::words::kind_word;
+use labels::Parts;
 use std::alloc::{AllocError, Global};
 use tables::sets::{GroupSet, ObjectSet, Rights};
 use tables::types::{Object, USERS, User};
@@ -22,8 +23,8 @@ pub(crate) fn user_line(heap: Global, number: u8, user: &User) -> Result<String,
     let mark = if user.admin { ", administrator" } else { "" };
     let groups = groups_text(heap, user.groups)?;
     let programs = members(heap, ", allow list", user.allowed)?;
-    let floor = Label(user.floor);
-    let top = Label(user.top);
+    let floor = Parts::from(user.floor);
+    let top = Parts::from(user.top);
     format!(in heap; "user {number}{mark}{groups}{programs}, range {floor} to {top}\n")
 }
 
@@ -67,7 +68,7 @@ fn object_text(heap: Global, number: u8, object: &Object) -> Result<String, Allo
 {
     let kind = kind_word(object.kind);
     let owner = object.owner;
-    let label = Label(object.label);
+    let label = Parts::from(object.label);
     let mark = if object.mixed { ", mixed" } else { "" };
     format!(in heap; "object {number}, {kind}, owner {owner}, label {label}{mark}")
 }

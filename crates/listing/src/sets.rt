@@ -1,28 +1,11 @@
-//! Labels in the house notation, and sets in words.
-ghost use Rattle.std.specs.Prelude.{◌≡◌, ℕ, List, ◌++◌, IfOk, Some as Text, string_bytes, OnOk};
-ghost use Rattle.listing.specs.Listed.{label_text, members_text, naming, text_of_rights};
+//! Sets in words.
+ghost use Rattle.std.specs.Prelude.{◌≡◌, ℕ, List, ◌++◌, IfOk, string_bytes, OnOk};
+ghost use Rattle.listing.specs.Listed.{members_text, naming, text_of_rights};
 
 use crate::words::right_word;
-use labels::Parts;
 use std::alloc::{AllocError, Global};
-use std::fmt;
 use tables::sets::{ObjectSet, Right, Rights};
 use tables::types::OBJECTS;
-
-/// A label, written `a,b;c,d`.
-#[derive(Clone, Copy)]
-pub struct Label(pub u64);
-
-impl fmt::Display for Label {
-    ghost output = { λ l. Text (label_text l.0) };
-
-    fn fmt<W: fmt::Write>(&self, f: &mut fmt::Formatter<W>) -> fmt::Result {
-        let p = Parts::of(self.0);
-        let (a, b) = (p.secrecy, p.secrecy_categories);
-        let (c, d) = (p.trust, p.trust_categories);
-        write!(f, "{a},{b};{c},{d}")
-    }
-}
 
 /// Adds a text behind another, where it could be made.
 pub(crate) fn append(out: &mut String, text: Result<String, AllocError>) -> Result<(), AllocError>

@@ -1,21 +1,22 @@
 -- Where a text is cut. Assumes nothing.
-use Rattle.std.proofs.Common.{◌≡◌, ℕ, zero, suc, ◌+◌, ◌-◌, ◌<◌, Bool, true, false, cond, not, eqb, List, [], ◌∷◌, ◌++◌, length, get_or, take, drop, is_some, Some, None, decimal, Option, sym, refl, ◌∙◌, subst, ap₂, append_assoc, add-one, arith, length-drop, take-append-drop, length-take, take_all, drop-cons, get_or-take, Bor, MatchOption}
+use Rattle.std.proofs.Common.{◌≡◌, ℕ, zero, suc, ◌<◌, List, [], ◌∷◌, ◌++◌, Some, None, decimal, Option, sym, refl, ◌∙◌, ap₂, append_assoc, arith, Bor, MatchOption}
 use Rattle.std.proofs.lemmas.Str.Pattern.{IsSplitOnceResult, split_after, split_parts}
 use Rattle.std.proofs.lemmas.Option.{MatchOption-at_some, MatchOption-at_none}
 use Rattle.std.proofs.lemmas.Bool.{eq-eqb, ne_eqb}
 use Rattle.labels.specs.declared.houses.Parts.{Parts}
-use Rattle.notation.specs.Texts.{Lacks, pieces, before, words, words_in}
-use Rattle.notation.specs.Notation.{notation, Small}
+use Rattle.notation.specs.Texts.{Lacks, pieces}
+use Rattle.labels.specs.Parts.{notation}
+use Rattle.notation.specs.Notation.{Small}
 use Rattle.notation.proofs.Decimals.{decimal_lacks}
 
 -- byte by byte
-lacks_first : (c b : ℕ) (bs : List ℕ) → Lacks c (b ∷ bs) → b ≡ c → ⊥
+pub lacks_first : (c b : ℕ) (bs : List ℕ) → Lacks c (b ∷ bs) → b ≡ c → ⊥
 lacks_first c b bs h e = h 0 (omega arith) e
 
-lacks_rest : (c b : ℕ) (bs : List ℕ) → Lacks c (b ∷ bs) → Lacks c bs
+pub lacks_rest : (c b : ℕ) (bs : List ℕ) → Lacks c (b ∷ bs) → Lacks c bs
 lacks_rest c b bs h i lt e = h (suc i) (omega arith) e
 
-lacks_more : (c b : ℕ) (bs : List ℕ) → (b ≡ c → ⊥) → Lacks c bs → Lacks c (b ∷ bs)
+pub lacks_more : (c b : ℕ) (bs : List ℕ) → (b ≡ c → ⊥) → Lacks c bs → Lacks c (b ∷ bs)
 lacks_more c b bs n h zero lt e = n e
 lacks_more c b bs n h (suc i) lt e = h i (omega arith) e
 
@@ -32,35 +33,6 @@ pieces_one c (b ∷ bs) h = rw (ne_eqb b c (lacks_first c b bs h), pieces_one c 
 pub pieces_cut : (c : ℕ) (bs rest : List ℕ) → Lacks c bs → pieces c (bs ++ (c ∷ rest)) ≡ bs ∷ pieces c rest
 pieces_cut c [] rest h = rw (eq-eqb c c refl) refl
 pieces_cut c (b ∷ bs) rest h = rw (ne_eqb b c (lacks_first c b bs h), pieces_cut c bs rest (lacks_rest c b bs h)) refl
-
-before_some : (b : ℕ) (ps : List (List ℕ)) → 0 < length (before b ps)
-before_some b [] = omega arith
-before_some b (p ∷ ps) = omega arith
-
--- there is always a piece
-pub pieces_some : (c : ℕ) (bs : List ℕ) → 0 < length (pieces c bs)
-pieces_some c [] = omega arith
-pieces_some c (b ∷ bs) = elim (eqb b c) as (λ t. 0 < length (cond t ([] ∷ pieces c bs) (before b (pieces c bs)))) [ true ↦ omega arith | false ↦ before_some b (pieces c bs) ]
-
-pub left_none : (o : Option (Bor (List ℕ))) (b : Bool) → is_some o ≡ not b → b ≡ eqb (length (words_in o)) 0
-left_none None true e = refl
-left_none None false e = cc
-left_none (Some text) true e = cc
-left_none (Some text) false e = sym (ne_eqb (length (words text.now)) 0 (λ z. omega (arith, pieces_some 32 text.now)))
-
--- a part in front of a byte, the byte, and all that is behind it
-pub around : (s : List ℕ) (i at : ℕ) → i < length s → get_or s i 0 ≡ at → s ≡ take (i - 0) s ++ (at ∷ take (length s - (i + 1)) (drop (i + 1) s))
-around s i at h e =
-    let all : take (length s - (i + 1)) (drop (i + 1) s) ≡ drop (i + 1) s = take_all (length s - (i + 1)) (drop (i + 1) s) (simp length-drop (omega arith)) in
-    let zero' : i - 0 ≡ i = omega arith in
-    sym (rw (zero', all) (rw (add-one, ← e, ← drop-cons s i 0) (take-append-drop i s)))
-
-pub front_lacks : (s : List ℕ) (i at : ℕ) → ((k : ℕ) → k < i → get_or s k 0 ≡ at → ⊥) → Lacks at (take (i - 0) s)
-front_lacks s i at h k lt e =
-    let below : k < i - 0 = omega (arith, length-take (i - 0) s) in h k (omega arith) (sym (get_or-take (i - 0) s k 0 below) ∙ e)
-
-pub none_case : {X : Type 0} (r : Option X) (P : Type 0) (Q : X → Type 0) → r ≡ None → P → MatchOption r P Q
-none_case r P Q e p = subst (λ o. MatchOption o P Q) (sym e) p
 
 -- a,b
 abbrev Two : List ℕ → ℕ → ℕ → Type 0

@@ -1,16 +1,12 @@
 -- How labels are written. Assumes nothing.
-use Rattle.std.specs.Prelude.{◌≡◌, ℕ, ◌^◌, ◌<◌, ◌⊎◌, List, ◌∷◌, ◌++◌, codes, decimal}
+use Rattle.std.specs.Prelude.{◌≡◌, ℕ, ◌^◌, ◌<◌, ◌⊎◌, List, codes, decimal}
 use Rattle.labels.specs.declared.houses.Parts.{Parts}
-use Rattle.labels.specs.House.{numbered}
+use Rattle.labels.specs.Parts.{number, notation}
 use Rattle.labels.specs.Meaning.{Meaning}
 use Rattle.labels.specs.House.{house}
 use Rattle.labels.specs.Old.{old}
 use Rattle.notation.specs.declared.schemes.SchemeName.{SchemeName}
 use Rattle.notation.specs.declared.schemes.SchemeName.TheVariants.{House, Old}
-
--- a,b;c,d in decimal: secrecy level and categories, trust level and categories
-abbrev pub notation : Parts → List ℕ
-notation p = decimal p.secrecy ++ (44 ∷ (decimal p.secrecy_categories ++ (59 ∷ (decimal p.trust ++ (44 ∷ decimal p.trust_categories)))))
 
 -- each part has 16 bits
 pub record Small (p : Parts) : Type 0 where
@@ -18,9 +14,6 @@ pub record Small (p : Parts) : Type 0 where
   pub secrecy_categories_fit : p.secrecy_categories < 65536
   pub trust : p.trust < 65536
   pub trust_categories_fit : p.trust_categories < 65536
-
-abbrev pub number : Parts → ℕ
-number p = numbered p.secrecy p.secrecy_categories p.trust p.trust_categories
 
 -- the text names the number n: by itself, in decimal, and for the house label by its parts as well
 abbrev pub Names : SchemeName → List ℕ → ℕ → Type 0

@@ -6,5 +6,5 @@ mod schemes;
 mod texts;
 
 pub use numbers::{read_number, read_parts};
-pub use schemes::{SchemeName, read_label, read_scheme};
+pub use schemes::{SchemeName, UnknownScheme, read_label};
 pub use texts::{Words, split_once};

@@ -1,7 +1,8 @@
 //! Numbers and the parts of house labels, as they are written.
 ghost use Rattle.std.specs.Prelude.{◌≡◌, ℕ, ◌^◌, ◌<◌, ◌⊎◌, ◌∷◌, ◌++◌, length, decimal, Decides, MatchOption, ◌≢◌, slice_index};
 ghost use Rattle.labels.specs.declared.houses.Parts.{Parts as PartsOf};
-ghost use Rattle.notation.specs.Notation.{notation, Small};
+ghost use Rattle.labels.specs.Parts.{notation};
+ghost use Rattle.notation.specs.Notation.{Small};
 
 use labels::Parts;
 
@@ -9,10 +10,7 @@ use labels::Parts;
 fn has_prefix(text: &str) -> bool
     ensures { Decides result ((slice_index text.now 0 ≡ 43) ⊎ ((1 < length text.now) × (slice_index text.now 0 ≡ 48))) }
 {
-    if text.starts_with('+') {
-        return true;
-    }
-    text.len() > 1 && text.starts_with('0')
+    text.starts_with('+') || text.len() > 1 && text.starts_with('0')
 }
 
 /// The number below 2^64 that is written so in decimal, with no sign and no zero in front.
@@ -22,23 +20,18 @@ pub fn read_number(text: &str) -> Option<u64>
     if has_prefix(text) {
         return None;
     }
-    match text.parse::<u64>() {
-        Ok(n) => Some(n),
-        Err(_) => None,
-    }
+    text.parse().ok()
 }
 
 /// A number that has 16 bits.
 fn read_part(text: &str) -> Option<u16>
     ensures { MatchOption result ((n : ℕ) → n < 65536 → text.now ≢ decimal n) (λ n. (n < 65536) × (text.now ≡ decimal n)) }
 {
-    match read_number(text) {
-        Some(n) if n < 65536 => Some(n as u16),
-        _ => None,
-    }
+    u16::try_from(read_number(text)?).ok()
 }
 
 /// The parts that are written so, as `a,b;c,d`.
+// Kept: no FromStr, which would have to stand with the type, in `labels`, where no text is read.
 pub fn read_parts(text: &str) -> Option<Parts>
     ensures { MatchOption result ((p : PartsOf) → Small p → text.now ≢ notation p) (λ p. Small p × (text.now ≡ notation p)) }
 {
@@ -58,7 +51,5 @@ fn read_two(text: &str) -> Option<(u16, u16)>
     ensures { MatchOption result ((m n : ℕ) → m < 65536 → n < 65536 → text.now ≢ decimal m ++ (44 ∷ decimal n)) (λ p. (p.0 < 65536) × (p.1 < 65536) × (text.now ≡ decimal p.0 ++ (44 ∷ decimal p.1))) }
 {
     let (level, categories) = text.split_once(',')?;
-    let level = read_part(level)?;
-    let categories = read_part(categories)?;
-    Some((level, categories))
+    Some((read_part(level)?, read_part(categories)?))
 }

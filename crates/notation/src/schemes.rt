@@ -1,8 +1,9 @@
 //! The label schemes in use by their names, and labels as they are written for each.
-ghost use Rattle.std.specs.Prelude.{◌≡◌, ℕ, MatchOption, ◌≢◌};
+ghost use Rattle.std.specs.Prelude.{◌≡◌, ℕ, MatchOption, MatchResult, ◌≢◌};
 ghost use Rattle.notation.specs.Notation.{Names, called_scheme};
 
 use crate::numbers::{read_number, read_parts};
+use std::str::FromStr;
 
 /// A label scheme in use.
 #[derive(Clone, Copy)]
@@ -11,14 +12,21 @@ pub enum SchemeName {
     Old,
 }
 
-/// The label scheme that is called so.
-pub fn read_scheme(word: &str) -> Option<SchemeName>
-    ensures { MatchOption result ((k : _) → word.now ≢ called_scheme k) (λ k. word.now ≡ called_scheme k) }
-{
-    match word {
-        "house" => Some(SchemeName::House),
-        "old" => Some(SchemeName::Old),
-        _ => None,
+/// No label scheme is called so.
+#[derive(Clone, Copy)]
+pub struct UnknownScheme;
+
+impl FromStr for SchemeName {
+    type Err = UnknownScheme;
+
+    ghost from_str_gives = { λ text r. MatchResult r (λ k. text ≡ called_scheme k) (λ _. (k : _) → text ≢ called_scheme k) };
+
+    fn from_str(text: &str) -> Result<SchemeName, UnknownScheme> {
+        match text {
+            "house" => Ok(SchemeName::House),
+            "old" => Ok(SchemeName::Old),
+            _ => Err(UnknownScheme),
+        }
     }
 }
 
@@ -30,7 +38,7 @@ pub fn read_label(scheme: SchemeName, word: &str) -> Option<u64>
         return Some(n);
     }
     match scheme {
-        SchemeName::House => Some(read_parts(word)?.number()),
+        SchemeName::House => read_parts(word).map(u64::from),
         SchemeName::Old => None,
     }
 }

@@ -1,20 +1,17 @@
 //! Texts cut at a byte, and the words of a line.
-ghost use Rattle.std.specs.Prelude.{◌≡◌, ◌∷◌, ◌++◌, length, MatchOption, ◌==◌};
-ghost use Rattle.notation.specs.Texts.{Lacks, words, left, Gave};
+ghost use Rattle.std.specs.Prelude.{◌≡◌, ◌∷◌, ◌++◌, MatchOption};
+ghost use Rattle.std.specs.Iterator.{YieldsFirstRef, item_count};
+ghost use Rattle.notation.specs.Texts.{Lacks, words, left};
 
 /// What stands before the first byte `at`, and what stands behind it.
 pub fn split_once(text: &[u8], at: u8) -> Option<(&[u8], &[u8])>
     ensures { MatchOption result (Lacks at text.now) (λ p. Lacks at p.0.now × (text.now ≡ p.0.now ++ (at ∷ p.1.now))) }
 {
-    for (i, b) in text.iter().enumerate() {
-        if *b == at {
-            return Some((&text[0..i], &text[i + 1..]));
-        }
-    }
-    None
+    let i = text.iter().position(|b| *b == at)?;
+    Some((&text[..i], &text[i + 1..]))
 }
 
-/// Gives the words of a line one after another.
+/// The words of a line, one after another.
 #[derive(Drop)]
 pub struct Words<'a> {
     rest: Option<&'a str>,
@@ -26,30 +23,21 @@ impl<'a> Words<'a> {
     {
         Words { rest: Some(line) }
     }
+}
 
-    /// The next word; an empty one where none is left.
-    pub fn next_word(&mut self) -> &'a str
-        ensures { Gave self.old result.now self.new }
-    {
-        let Some(text) = self.rest else {
-            return "";
+impl<'a> Iterator for Words<'a> {
+    type Item = &'a str;
+
+    ghost next_gives = { YieldsFirstRef left };
+
+    ghost remaining = { item_count left };
+
+    fn next(&mut self) -> Option<&'a str> {
+        let text = self.rest.take()?;
+        let Some((word, rest)) = text.split_once(' ') else {
+            return Some(text);
         };
-        match text.split_once(' ') {
-            Some((word, rest)) => {
-                self.rest = Some(rest);
-                word
-            }
-            None => {
-                self.rest = None;
-                text
-            }
-        }
-    }
-
-    /// Is no word left?
-    pub fn at_end(&self) -> bool
-        ensures { result ≡ (length (left self.now) == 0) }
-    {
-        self.rest.is_none()
+        self.rest = Some(rest);
+        Some(word)
     }
 }

@@ -1,24 +1,44 @@
 //! Reads questions.
 ghost use Rattle.std.specs.Prelude.{◌≡◌, ℕ, List, drop, MatchOption, MatchResult, ◌≢◌};
-ghost use Rattle.calculator.specs.declared.questions.Fault.TheVariants.{Second as SecondFault};
+ghost use Rattle.calculator.specs.declared.questions.Fault.TheVariants.{Text as TextFault, Ask as AskFault, Scheme as SchemeFault, Second as SecondFault};
 ghost use Rattle.notation.specs.Notation.{Names};
-ghost use Rattle.calculator.specs.Questions.{called_ask, Asked, Rest, Whole, Understood};
-ghost use Rattle.notation.specs.Texts.{left, Gave};
+ghost use Rattle.calculator.specs.Questions.{called_ask, word, Asked, Rest, Understood};
+ghost use Rattle.notation.specs.Texts.{left};
 
 use super::{Ask, Fault, Question};
-use notation::{SchemeName, Words, read_label, read_scheme};
+use notation::{SchemeName, UnknownScheme, Words, read_label};
+use std::str::{FromStr, Utf8Error};
 
-/// What is called so.
-pub fn read_ask(word: &str) -> Option<Ask>
-    ensures { MatchOption result ((q : _) → word.now ≢ called_ask q) (λ q. word.now ≡ called_ask q) }
-{
-    match word {
-        "label" => Some(Ask::Label),
-        "flows" => Some(Ask::Flows),
-        "holds" => Some(Ask::Holds),
-        "number" => Some(Ask::Number),
-        "parts" => Some(Ask::Parts),
-        _ => None,
+impl FromStr for Ask {
+    type Err = Fault;
+
+    ghost from_str_gives = { λ text r. MatchResult r (λ q. text ≡ called_ask q) (λ f. (f ≡ AskFault) × ((q : _) → text ≢ called_ask q)) };
+
+    fn from_str(text: &str) -> Result<Ask, Fault> {
+        match text {
+            "label" => Ok(Ask::Label),
+            "flows" => Ok(Ask::Flows),
+            "holds" => Ok(Ask::Holds),
+            "number" => Ok(Ask::Number),
+            "parts" => Ok(Ask::Parts),
+            _ => Err(Fault::Ask),
+        }
+    }
+}
+
+impl From<UnknownScheme> for Fault {
+    ghost from_gives = { λ _ f. f ≡ SchemeFault };
+
+    fn from(_unknown: UnknownScheme) -> Fault {
+        Fault::Scheme
+    }
+}
+
+impl From<Utf8Error> for Fault {
+    ghost from_gives = { λ _ f. f ≡ TextFault };
+
+    fn from(_error: Utf8Error) -> Fault {
+        Fault::Text
     }
 }
 
@@ -26,15 +46,9 @@ pub fn read_ask(word: &str) -> Option<Ask>
 fn read_words(words: &mut Words) -> Result<Question, Fault>
     ensures { Asked (left words.old) result }
 {
-    let Some(ask) = read_ask(words.next_word()) else {
-        return Err(Fault::Ask);
-    };
-    let Some(scheme) = read_scheme(words.next_word()) else {
-        return Err(Fault::Scheme);
-    };
-    let Some(a) = read_label(scheme, words.next_word()) else {
-        return Err(Fault::First);
-    };
+    let ask: Ask = words.next().ok_or(Fault::Ask)?.parse()?;
+    let scheme: SchemeName = words.next().ok_or(Fault::Scheme)?.parse()?;
+    let a = next_label(words, scheme).ok_or(Fault::First)?;
     read_rest(words, ask, scheme, a)
 }
 
@@ -42,48 +56,39 @@ fn read_words(words: &mut Words) -> Result<Question, Fault>
 fn read_rest(words: &mut Words, ask: Ask, scheme: SchemeName, a: u64) -> Result<Question, Fault>
     ensures { (ws : List (List ℕ)) → left words.old ≡ drop 3 ws → Rest ws ask scheme a result }
 {
-    match ask {
-        Ask::Label => whole(words, Question::Label(scheme, a)),
-        Ask::Flows => {
-            let b = read_second(words, scheme)?;
-            whole(words, Question::Flows(scheme, a, b))
-        }
-        Ask::Holds => {
-            let b = read_second(words, scheme)?;
-            whole(words, Question::Holds(scheme, a, b))
-        }
-        Ask::Number => whole(words, Question::Number(scheme, a)),
-        Ask::Parts => whole(words, Question::Parts(scheme, a)),
+    let question = match ask {
+        Ask::Label => Question::Label(scheme, a),
+        Ask::Flows => Question::Flows(scheme, a, read_second(words, scheme)?),
+        Ask::Holds => Question::Holds(scheme, a, read_second(words, scheme)?),
+        Ask::Number => Question::Number(scheme, a),
+        Ask::Parts => Question::Parts(scheme, a),
+    };
+    match words.next() {
+        None => Ok(question),
+        Some(_) => Err(Fault::Extra),
     }
 }
 
 /// The second label of a question.
 fn read_second(words: &mut Words, scheme: SchemeName) -> Result<u64, Fault>
-    ensures { (w : List ℕ) × Gave words.old w words.new × MatchResult result (Names scheme w) (λ f. (f ≡ SecondFault) × ((n : ℕ) → Names scheme w n → ⊥)) }
+    ensures rest { left words.new ≡ drop 1 (left words.old) }
+    ensures label { MatchResult result (Names scheme (word (left words.old) 0)) (λ f. (f ≡ SecondFault) × ((n : ℕ) → Names scheme (word (left words.old) 0) n → ⊥)) }
 {
-    match read_label(scheme, words.next_word()) {
-        Some(n) => Ok(n),
-        None => Err(Fault::Second),
-    }
+    next_label(words, scheme).ok_or(Fault::Second)
 }
 
-/// The question, where no word is left.
-fn whole(words: &Words, question: Question) -> Result<Question, Fault>
-    ensures { Whole (left words.now) 0 question result }
+/// The label that the next word names, if there is one.
+fn next_label(words: &mut Words, scheme: SchemeName) -> Option<u64>
+    ensures rest { left words.new ≡ drop 1 (left words.old) }
+    ensures label { MatchOption result ((n : ℕ) → Names scheme (word (left words.old) 0) n → ⊥) (Names scheme (word (left words.old) 0)) }
 {
-    if words.at_end() {
-        Ok(question)
-    } else {
-        Err(Fault::Extra)
-    }
+    read_label(scheme, words.next()?)
 }
 
 /// What a line asks, or the first thing in it that is not understood.
 pub fn read_question(line: &[u8]) -> Result<Question, Fault>
     ensures { Understood line.now result }
 {
-    let Ok(text) = std::str::from_utf8(line) else {
-        return Err(Fault::Text);
-    };
+    let text = std::str::from_utf8(line)?;
     read_words(&mut Words::new(text))
 }

@@ -2,7 +2,7 @@
 ghost use Rattle.std.specs.Prelude.{◌≡◌};
 ghost use Rattle.labels.specs.Built.{level_of};
 ghost use Rattle.labels.specs.Schemes.{level};
-ghost use Rattle.std.proofs.Common.{rules, arith};
+ghost use Rattle.labels.specs.Lawful.{level_lawful};
 
 use super::Level;
 use crate::schemes::Scheme;
@@ -18,7 +18,7 @@ impl Level {
 impl Scheme for Level {
     ghost meaning = { level_of };
 
-    ghost lawful = { first_of (Prim.search rules, Prim.grind (arith, Self.row.coded.inj)) };
+    ghost lawful = { λ s. level_lawful s.max s.small };
 
     fn label(&self, a: u64) -> bool {
         a <= u64::from(self.max)

@@ -2,8 +2,7 @@
 ghost use Rattle.std.specs.Prelude.{◌≡◌, min};
 ghost use Rattle.labels.specs.Built.{categories_of};
 ghost use Rattle.labels.specs.Schemes.{categories, ByCategory};
-ghost use Rattle.std.proofs.Common.{rules};
-ghost use Rattle.labels.specs.Subsets.{within_self, within_through};
+ghost use Rattle.labels.specs.Lawful.{categories_lawful};
 
 use super::Categories;
 use crate::schemes::Scheme;
@@ -25,7 +24,7 @@ impl Categories {
 impl Scheme for Categories {
     ghost meaning = { categories_of };
 
-    ghost lawful = { λ s. Prim.search (rules, within_self, within_through) };
+    ghost lawful = { λ s. categories_lawful s.bits s.few };
 
     fn label(&self, a: u64) -> bool {
         a < 1u64 << self.bits

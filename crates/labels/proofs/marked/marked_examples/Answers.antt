@@ -1,6 +1,5 @@
-use Rattle.std.proofs.Common.{refl}
 use Rattle.labels.proofs.Rows.{marked_stand}
 use Rattle.labels.proofs.marked.marked_examples.Goals as goal
 
-pub returns : goal.returns
-returns c = record { rows = refl; stand = marked_stand }
+pub returns-clause-stand : goal.returns-clause-stand
+returns-clause-stand c = marked_stand

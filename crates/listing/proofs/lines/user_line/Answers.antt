@@ -1,5 +1,6 @@
 use Rattle.std.proofs.Common.{◌≡◌, ℕ, Bool, cond, List, [], string_bytes, codes, sym, ap, ◌∙◌}
 use Rattle.std.proofs.lemmas.Result.{IfOk-from_err}
+use Rattle.labels.specs.Parts.{notation}
 use Rattle.listing.specs.Listed.{members_text}
 use Rattle.listing.proofs.lines.user_line.Goals as goal
 use Rattle.listing.proofs.lines.user_line.Goals.{then-user, else-user}
@@ -17,4 +18,4 @@ returns c =
     elim c.if-user.branch [ then-user w ↦ ap (λ x. x.now) w.mark-is ∙ sym (ap said w.if-user.true) | else-user w ↦ ap (λ x. x.now) w.mark-is ∙ sym (ap said w.if-user.false) ] in
     let g : string_bytes c.in_ok-groups.groups ≡ members_text (codes ", groups") c.args.user.now.groups.0 = c.in_ok-groups.ensures in
     let p : string_bytes c.in_ok-programs.programs ≡ members_text (codes ", allow list") c.args.user.now.allowed.0 = c.in_ok-programs.ensures in
-    rw (← m, ← g, ← p) c.format.ensures.ok
+    rw (← m, ← g, ← p, ← (ap notation c.from-floor.ensures.parts), ← (ap notation c.from-top.ensures.parts)) c.format.ensures.ok

@@ -1,4 +1,3 @@
-use Rattle.std.proofs.lemmas.Result.{MatchResult-at_ok, MatchResult-at_err}
 use Rattle.std.proofs.lemmas.Bool.Decides.{not_from_Decides}
 use Rattle.notation.proofs.Decimals.{no_prefix, reads_number}
 use Rattle.notation.proofs.numbers.read_number.Goals as goal
@@ -6,12 +5,7 @@ use Rattle.notation.proofs.numbers.read_number.Goals as goal
 pub returns-then-has_prefix : goal.returns-then-has_prefix
 returns-then-has_prefix c n h e = no_prefix n c.args.text.now h e (c.has_prefix.ensures.0 c.if-has_prefix.true)
 
-pub returns-in-Ok : goal.returns-in-Ok
-returns-in-Ok c =
-    MatchResult-at_ok _ _ c.in-Ok.n c.in-Ok.is
-    (reads_number c.args.text.now c.parse.result c.parse.ensures.value.0 (not_from_Decides _ c.has_prefix.ensures c.if-has_prefix.false))
-
-pub returns-in-Err : goal.returns-in-Err
-returns-in-Err c =
-    MatchResult-at_err _ _ c.in-Err.field-0 c.in-Err.is
+pub returns : goal.returns
+returns c =
+    rw (c.ok.ensures.value)
     (reads_number c.args.text.now c.parse.result c.parse.ensures.value.0 (not_from_Decides _ c.has_prefix.ensures c.if-has_prefix.false))

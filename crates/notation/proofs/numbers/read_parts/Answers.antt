@@ -1,17 +1,17 @@
-use Rattle.notation.proofs.Cuts.{none_case, parts_uncut, parts_cut, parts_from}
+use Rattle.notation.proofs.Cuts.{parts_uncut, parts_cut, parts_from}
 use Rattle.notation.proofs.numbers.read_parts.Goals as goal
 
 pub returns-in_err-secrecy : goal.returns-in_err-secrecy
-returns-in_err-secrecy c = none_case c.from_residual.result _ _ c.from_residual.ensures (parts_uncut c.args.text.now c.split_once.result c.split_once.ensures.cases c.in_err-secrecy.was)
+returns-in_err-secrecy c = rw (c.from_residual.ensures) (parts_uncut c.args.text.now c.split_once.result c.split_once.ensures.cases c.in_err-secrecy.was)
 
 pub returns-in_err-secrecy-2 : goal.returns-in_err-secrecy-2
 returns-in_err-secrecy-2 c =
-    none_case c.from_residual-in_err-secrecy-2.result _ _ c.from_residual-in_err-secrecy-2.ensures
+    rw (c.from_residual-in_err-secrecy-2.ensures)
     (λ p small e. c.in_err-secrecy-2.ensures p.secrecy p.secrecy_categories small.secrecy small.secrecy_categories_fit (parts_cut c.args.text.now c.split_once.result c.split_once.ensures.cases _ c.in_ok-secrecy.was p small e).0)
 
 pub returns-in_err-trust : goal.returns-in_err-trust
 returns-in_err-trust c =
-    none_case c.from_residual-in_err-trust.result _ _ c.from_residual-in_err-trust.ensures
+    rw (c.from_residual-in_err-trust.ensures)
     (λ p small e. c.in_err-trust.ensures p.trust p.trust_categories small.trust small.trust_categories_fit (parts_cut c.args.text.now c.split_once.result c.split_once.ensures.cases _ c.in_ok-secrecy.was p small e).1)
 
 pub returns : goal.returns
