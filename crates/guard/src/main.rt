@@ -7,6 +7,8 @@ use std::{fs, io};
 use transcript::house_transcript;
 
 /// The bytes of the file `roll`: none where there is no such file.
+// Kept: five programs have these lines. In a library it would be a public function that can promise nothing of the bytes, since the kit promises
+// nothing of what a file holds, and each public function here has a contract that names its answer.
 fn read_roll(rt: &HostRuntime) -> io::Result<Vec<u8>> {
     match fs::read(rt, "roll") {
         Err(e) if e.kind() == io::ErrorKind::NotFound => Ok(Vec::new(rt.alloc())),
@@ -14,16 +16,12 @@ fn read_roll(rt: &HostRuntime) -> io::Result<Vec<u8>> {
     }
 }
 
-fn run(rt: &HostRuntime) -> anyhow::Result<()> {
+fn main(rt: HostRuntime) -> anyhow::Result<()> {
     let heap = rt.alloc();
-    let roll = read_roll(rt)?;
+    let roll = read_roll(&rt)?;
     let mut calls = Vec::new(heap);
     rt.stdin().read_to_end(&mut calls)?;
     let text = house_transcript(heap, roll.as_slice(), calls.as_slice())?;
     rt.print(text)?;
     Ok(())
-}
-
-fn main(rt: HostRuntime) -> anyhow::Result<()> {
-    run(&rt)
 }

@@ -23,6 +23,7 @@ impl From<RecordFault> for RollFault {
 
 impl RollFault {
     /// The fault's number.
+    // Kept: a fault has a number and a place; `u8::from(&fault)` would not say which of the two it gives, and the numbers are those of the format.
     pub fn number(&self) -> u8
         ensures { result ≡ fault_number self.now }
     {

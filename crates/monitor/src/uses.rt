@@ -8,6 +8,7 @@ ghost use Rattle.tables.specs.State.{blank};
 use crate::guards::Guard;
 use labels::{House, Old, house_label, old_label};
 
+// Kept: each of the two is one line that names a label in use and pins what it means; what they share is `Guard::new`, which is generic.
 /// A blank guard at the house label.
 pub fn house_guard() -> Guard<House>
     ensures scheme { house_of result.scheme ≡ house }

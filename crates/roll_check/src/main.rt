@@ -5,6 +5,8 @@ use listing::report;
 use std::{fs, io};
 
 /// The bytes of the file `roll`: none where there is no such file.
+// Kept: five programs have these lines. In a library it would be a public function that can promise nothing of the bytes, since the kit promises
+// nothing of what a file holds, and each public function here has a contract that names its answer.
 fn read_roll(rt: &HostRuntime) -> io::Result<Vec<u8>> {
     match fs::read(rt, "roll") {
         Err(e) if e.kind() == io::ErrorKind::NotFound => Ok(Vec::new(rt.alloc())),
@@ -12,13 +14,9 @@ fn read_roll(rt: &HostRuntime) -> io::Result<Vec<u8>> {
     }
 }
 
-fn run(rt: &HostRuntime) -> anyhow::Result<()> {
-    let bytes = read_roll(rt)?;
+fn main(rt: HostRuntime) -> anyhow::Result<()> {
+    let bytes = read_roll(&rt)?;
     let text = report(rt.alloc(), bytes.as_slice())?;
     rt.print(text)?;
     Ok(())
-}
-
-fn main(rt: HostRuntime) -> anyhow::Result<()> {
-    run(&rt)
 }

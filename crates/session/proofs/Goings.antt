@@ -1,5 +1,5 @@
 -- Calls that are answered one after another. Assumes nothing.
-use Rattle.std.proofs.Common.{◌≡◌, ℕ, suc, ◌+◌, ◌*◌, ◌/◌, ◌<◌, ◌≤◌, List, [], ◌∷◌, ◌++◌, length, get_or, drop, set, Ok, Result, sym, refl, ap, ◌∙◌, subst, append_assoc, arith, length-append, drop-cons}
+use Rattle.std.proofs.Common.{◌≡◌, ℕ, suc, ◌+◌, ◌*◌, ◌/◌, ◌<◌, ◌≤◌, List, [], ◌∷◌, ◌++◌, length, get_or, drop, set, Ok, Err, Result, sym, refl, ap, ◌∙◌, subst, append_assoc, arith, length-append, drop-cons}
 use lib.Seq.{set_at}
 use Rattle.std.specs.List.{flat_map}
 use Rattle.labels.specs.Meaning.{Meaning}
@@ -24,9 +24,8 @@ use Rattle.monitor.specs.Decides.{Decided}
 use Rattle.monitor.specs.Loads.{Tells}
 use Rattle.monitor.proofs.Answers.{one_answer}
 use Rattle.stream.proofs.Sure.{one_reading}
-use Rattle.session.specs.declared.outcomes.End.{End}
-use Rattle.session.specs.declared.outcomes.End.TheVariants.{Whole, BadCall, BadRoll, NoRoom}
-use Rattle.session.specs.Sessions.{Stretch, Ran, OneRun}
+use Rattle.session.specs.declared.outcomes.Stop.TheVariants.{BadCall, BadRoll, NoRoom}
+use Rattle.session.specs.Sessions.{End, Stretch, Ran, OneRun}
 
 -- n calls were answered from the tables `start` on, which are now t; the cursor stands behind the calls, and the buffer holds their answers
 pub record Going (m : Meaning) (start : Tables) (stream : List ℕ) (c : Cursor) (n : ℕ) (before now : List ℕ) (t : Tables) : Type 0 where
@@ -97,7 +96,7 @@ module _ {m : Meaning} {start : Tables} {stream : List ℕ} {a : Cursor} {n : �
       }
 
   -- nothing is left, or the next call cannot be read
-  pub going_done : left a ≡ [] → Stretch m start stream n Whole before now t
+  pub going_done : left a ≡ [] → Stretch m start stream n (Ok tt) before now t
   going_done none = record {
     calls = go.calls;
     answers = go.answers;
@@ -108,7 +107,7 @@ module _ {m : Meaning} {start : Tables} {stream : List ℕ} {a : Cursor} {n : �
     written = go.written;
   }
 
-  pub going_bad : (f : CallFault) → 0 < length (left a) → Faulty a.place (left a) f → Stretch m start stream n (BadCall f) before now t
+  pub going_bad : (f : CallFault) → 0 < length (left a) → Faulty a.place (left a) f → Stretch m start stream n (Err (BadCall f)) before now t
   going_bad f more w = record {
     calls = go.calls;
     answers = go.answers;
@@ -122,10 +121,10 @@ module _ {m : Meaning} {start : Tables} {stream : List ℕ} {a : Cursor} {n : �
 -- from a roll that was taken
 pub from_roll : (m : Meaning) (roll stream : List ℕ) (start : Tables) (n : ℕ) (end : End) (before now : List ℕ) (t u : Tables) → length stream / 2 ≤ length before
     → Tells m roll (Ok start) → AllSecure m start → Stretch m start stream n end before now u → Ran m roll stream n end before now t u
-from_roll m roll stream start n NoRoom before now t u wide taken all s = absurd s
-from_roll m roll stream start n (BadRoll f) before now t u wide taken all s = absurd s
-from_roll m roll stream start n (BadCall f) before now t u wide taken all s = (wide, record { start = start; taken = taken; answered = s; secure = all s.calls s.answers s.run; all_secure = all })
-from_roll m roll stream start n Whole before now t u wide taken all s = (wide, record { start = start; taken = taken; answered = s; secure = all s.calls s.answers s.run; all_secure = all })
+from_roll m roll stream start n (Err NoRoom) before now t u wide taken all s = absurd s
+from_roll m roll stream start n (Err (BadRoll f)) before now t u wide taken all s = absurd s
+from_roll m roll stream start n (Err (BadCall f)) before now t u wide taken all s = (wide, record { start = start; taken = taken; answered = s; secure = all s.calls s.answers s.run; all_secure = all })
+from_roll m roll stream start n (Ok x) before now t u wide taken all s = (wide, record { start = start; taken = taken; answered = s; secure = all s.calls s.answers s.run; all_secure = all })
 
 -- a roll and a stream have one outcome
 pub one : (m : Meaning) → OneRun m

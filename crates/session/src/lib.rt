@@ -4,5 +4,5 @@
 mod outcomes;
 mod runs;
 
-pub use outcomes::{End, Outcome};
+pub use outcomes::{Outcome, Stop};
 pub use runs::run;

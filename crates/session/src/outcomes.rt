@@ -1,37 +1,50 @@
 //! How a run goes out.
 ghost use Rattle.std.specs.Prelude.{◌≡◌};
-ghost use Rattle.session.specs.Sessions.{end_number};
+ghost use Rattle.session.specs.Sessions.{stop_number, end_number};
 
 use monitor::RollFault;
 use stream::CallFault;
 
-/// How a run ends: all calls were answered, a call could not be read, the roll was refused, or the buffer has no room for an answer to each call
-/// that the stream may hold.
+/// Why a run stops short: a call could not be read, the roll was refused, or the buffer has no room for an answer to each call that the stream may
+/// hold.
 #[derive(Clone, Copy)]
-pub enum End {
-    Whole,
+pub enum Stop {
     BadCall(CallFault),
     BadRoll(RollFault),
     NoRoom,
 }
 
-impl End {
-    /// The number of this end: 0 where all calls were answered, that of the fault of a bad call or a refused roll, and 15 for no room.
+impl Stop {
+    /// The number of this stop: that of the fault of a bad call or a refused roll, and 15 for no room.
+    // Kept: a stop has other numbers in it (a place, a length); `u8::from(&stop)` would not say which it gives.
     pub fn number(&self) -> u8
-        ensures { result ≡ end_number self.now }
+        ensures { result ≡ stop_number self.now }
     {
         match self {
-            End::Whole => 0,
-            End::BadCall(fault) => fault.number(),
-            End::BadRoll(fault) => fault.number(),
-            End::NoRoom => 15,
+            Stop::BadCall(fault) => fault.number(),
+            Stop::BadRoll(fault) => fault.number(),
+            Stop::NoRoom => 15,
         }
     }
 }
 
-/// How many calls were answered, and how the run ended.
+/// How many calls were answered, and why the run stopped, if not at the end of the stream.
+// Kept: the answers stand in a buffer that the caller lends, and this is how many of them; the engine allocates nothing.
 #[derive(Clone, Copy)]
 pub struct Outcome {
     pub answered: usize,
-    pub end: End,
+    pub end: Result<(), Stop>,
+}
+
+impl Outcome {
+    /// The number of the end: 0 where all calls were answered, else that of the stop.
+    // Kept: as above; an outcome has a count as well.
+    pub fn number(&self) -> u8
+        ensures { result ≡ end_number self.now.end }
+    {
+        match self.end {
+            Ok(()) => 0,
+            Err(stop) => stop.number(),
+        }
+    }
 }

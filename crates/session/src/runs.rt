@@ -4,7 +4,7 @@ ghost use Rattle.calls.specs.Refusals.{answer_number};
 ghost use Rattle.histories.specs.Kept.{Kept};
 ghost use Rattle.session.specs.Sessions.{Stretch, Ran, OneRun};
 
-use crate::outcomes::{End, Outcome};
+use crate::outcomes::{Outcome, Stop};
 use byte_cursor::Cursor;
 use calls::types::Refusal;
 use labels::Scheme;
@@ -12,6 +12,7 @@ use monitor::Guard;
 use stream::next_call;
 
 /// The number of an answer: 0 for a granted call, else that of the refusal.
+// Kept: `Result` and `u8` are std's, so `From` between them cannot be written here.
 fn number_of(answer: &Result<(), Refusal>) -> u8
     ensures { result ≡ answer_number answer.now }
 {
@@ -30,6 +31,8 @@ fn answer_all<S: Scheme>(guard: &mut Guard<S>, calls: &[u8], answers: &mut [u8])
 {
     let mut c = Cursor::new(calls);
     let mut answered = 0;
+    // Kept: the calls come from a cursor and not from a slice, and the count is what the outcome says; pairing them with the places of the buffer
+    // would need the count as well.
     while let Some(next) = next_call(&mut c) {
         match next {
             Ok(call) => {
@@ -40,14 +43,14 @@ fn answer_all<S: Scheme>(guard: &mut Guard<S>, calls: &[u8], answers: &mut [u8])
             Err(fault) => {
                 return Outcome {
                     answered,
-                    end: End::BadCall(fault),
+                    end: Err(Stop::BadCall(fault)),
                 };
             }
         }
     }
     Outcome {
         answered,
-        end: End::Whole,
+        end: Ok(()),
     }
 }
 
@@ -67,13 +70,13 @@ pub fn run<S: Scheme>(
     if answers.len() < calls.len() / 2 {
         return Outcome {
             answered: 0,
-            end: End::NoRoom,
+            end: Err(Stop::NoRoom),
         };
     }
     if let Err(fault) = guard.load(roll) {
         return Outcome {
             answered: 0,
-            end: End::BadRoll(fault),
+            end: Err(Stop::BadRoll(fault)),
         };
     }
     answer_all(guard, calls, answers)

@@ -1,11 +1,10 @@
 -- The lines of answers one after another, and what a run printed. Assumes nothing.
-use Rattle.std.proofs.Common.{◌≡◌, ℕ, suc, ◌+◌, ◌/◌, ◌<◌, ◌≤◌, List, [], ◌∷◌, ◌++◌, length, get_or, take, drop, Option, sym, ap, ◌∙◌, append_assoc, append-nil, arith, length-append, take-append-drop, length-take-le, take-suc, take_at}
+use Rattle.std.proofs.Common.{◌≡◌, ℕ, suc, ◌+◌, ◌/◌, ◌<◌, ◌≤◌, List, [], ◌∷◌, ◌++◌, length, get_or, take, drop, Ok, Err, Option, sym, ap, ◌∙◌, append_assoc, append-nil, arith, length-append, take-append-drop, length-take-le, take-suc, take_at}
 use Rattle.labels.specs.Meaning.{Meaning}
 use Rattle.tables.specs.declared.types.Tables.{Tables}
 use Rattle.stream.specs.declared.faults.CallFault.{CallFault}
-use Rattle.session.specs.declared.outcomes.End.{End}
-use Rattle.session.specs.declared.outcomes.End.TheVariants.{Whole, BadCall, BadRoll, NoRoom}
-use Rattle.session.specs.Sessions.{Session, Ran}
+use Rattle.session.specs.declared.outcomes.Stop.TheVariants.{BadCall, BadRoll, NoRoom}
+use Rattle.session.specs.Sessions.{End, Session, Ran}
 use Rattle.transcript.specs.Printed.{line_of, lines_from, final_line, end_line, Printed, refused, taken}
 
 -- one more line at the end
@@ -41,10 +40,10 @@ module _ {m : Meaning} {roll stream : List ℕ} {n : ℕ} {before after : List �
 
 -- as many answers as were counted stand in front
 pub ran_long : (m : Meaning) (roll stream : List ℕ) (n : ℕ) (end : End) (before after : List ℕ) (t u : Tables) → Ran m roll stream n end before after t u → n ≡ length (take n after)
-ran_long m roll stream n NoRoom before after t u (short, none, same, tables) = none ∙ ap (λ (k : ℕ). length (take k after)) (sym none)
-ran_long m roll stream n (BadRoll f) before after t u (wide, tells, none, same, blank) = none ∙ ap (λ (k : ℕ). length (take k after)) (sym none)
-ran_long m roll stream n (BadCall f) before after t u ran = front_long ran.1
-ran_long m roll stream n Whole before after t u ran = front_long ran.1
+ran_long m roll stream n (Err NoRoom) before after t u (short, none, same, tables) = none ∙ ap (λ (k : ℕ). length (take k after)) (sym none)
+ran_long m roll stream n (Err (BadRoll f)) before after t u (wide, tells, none, same, blank) = none ∙ ap (λ (k : ℕ). length (take k after)) (sym none)
+ran_long m roll stream n (Err (BadCall f)) before after t u ran = front_long ran.1
+ran_long m roll stream n (Ok x) before after t u ran = front_long ran.1
 
 pub ran_within : (m : Meaning) (roll stream : List ℕ) (n : ℕ) (end : End) (before after : List ℕ) (t u : Tables) → Ran m roll stream n end before after t u → n ≤ length after
 ran_within m roll stream n end before after t u ran =
@@ -55,8 +54,8 @@ ran_within m roll stream n end before after t u ran =
 -- the lines of the answers and the last line are what is printed, where the buffer had room
 pub printed : (m : Meaning) (roll stream : List ℕ) (n : ℕ) (end : End) (before after : List ℕ) (t u : Tables) (lines last out : List ℕ) → Ran m roll stream n end before after t u
     → length before ≡ length stream / 2 → lines ≡ lines_from 0 (take n after) → last ≡ final_line end → out ≡ lines ++ last → Printed m roll stream out
-printed m roll stream n NoRoom before after t u lines last out ran room ls la o = absurd (let h = ran.0 in omega arith)
-printed m roll stream n (BadRoll f) before after t u lines last out (wide, tells, none, same, blank) room ls la o =
+printed m roll stream n (Err NoRoom) before after t u lines last out ran room ls la o = absurd (let h = ran.0 in omega arith)
+printed m roll stream n (Err (BadRoll f)) before after t u lines last out (wide, tells, none, same, blank) room ls la o =
     refused f tells (o ∙ ap (λ (x : List ℕ). x ++ last) (ls ∙ ap (λ (k : ℕ). lines_from 0 (take k after)) none) ∙ la)
-printed m roll stream n (BadCall f) before after t u lines last out ran room ls la o = spoken ran.1 ls la o
-printed m roll stream n Whole before after t u lines last out ran room ls la o = spoken ran.1 ls la o
+printed m roll stream n (Err (BadCall f)) before after t u lines last out ran room ls la o = spoken ran.1 ls la o
+printed m roll stream n (Ok x) before after t u lines last out ran room ls la o = spoken ran.1 ls la o

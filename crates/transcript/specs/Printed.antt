@@ -11,8 +11,8 @@ use Rattle.stream.specs.Faults as of_call
 use Rattle.monitor.specs.declared.faults.RollFault.{RollFault}
 use Rattle.monitor.specs.Faults as of_roll
 use Rattle.monitor.specs.Loads.{Tells}
-use Rattle.session.specs.declared.outcomes.End.{End}
-use Rattle.session.specs.declared.outcomes.End.TheVariants.{Whole, BadCall, BadRoll, NoRoom}
+use Rattle.session.specs.declared.outcomes.Stop.TheVariants.{BadCall, BadRoll, NoRoom}
+use Rattle.session.specs.Sessions.{End}
 
 -- the line of one call: its place and its answer
 abbrev pub line_of : ℕ → ℕ → List ℕ
@@ -23,22 +23,26 @@ abbrev pub lines_from : ℕ → List ℕ → List ℕ
 lines_from k [] = []
 lines_from k (a ∷ rest) = line_of k a ++ lines_from (suc k) rest
 
--- the line of a call that cannot be read, and of a roll that is refused: the fault and its byte place
+-- the line of a fault: a word, its number, and its byte place
+abbrev pub line_of_fault : List ℕ → ℕ → ℕ → List ℕ
+line_of_fault word number place = word ++ (codes " " ++ (decimal number ++ (codes " " ++ (decimal place ++ codes "\n"))))
+
+-- the line of a call that cannot be read, and of a roll that is refused
 abbrev pub bad_line : CallFault → List ℕ
-bad_line f = codes "bad " ++ (decimal (of_call.fault_number f) ++ (codes " " ++ (decimal (of_call.fault_place f) ++ codes "\n")))
+bad_line f = line_of_fault (codes "bad") (of_call.fault_number f) (of_call.fault_place f)
 
 abbrev pub roll_line : RollFault → List ℕ
-roll_line f = codes "roll " ++ (decimal (of_roll.fault_number f) ++ (codes " " ++ (decimal (of_roll.fault_place f) ++ codes "\n")))
+roll_line f = line_of_fault (codes "roll") (of_roll.fault_number f) (of_roll.fault_place f)
 
 abbrev pub end_line : Option CallFault → List ℕ
 end_line None = []
 end_line (Some f) = bad_line f
 
 abbrev pub final_line : End → List ℕ
-final_line Whole = []
-final_line (BadCall f) = bad_line f
-final_line (BadRoll f) = roll_line f
-final_line NoRoom = []
+final_line (Ok x) = []
+final_line (Err (BadCall f)) = bad_line f
+final_line (Err (BadRoll f)) = roll_line f
+final_line (Err NoRoom) = []
 
 -- A roll that is refused prints one line. With a roll that is taken, the calls of the stream are answered one after another from its tables on, a line
 -- each, up to the end of the stream or the first call that cannot be read, which has the last line; and no promise is broken.

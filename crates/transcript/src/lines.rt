@@ -1,8 +1,8 @@
 //! The lines of a run.
 ghost use Rattle.std.specs.Prelude.{◌≡◌, IfOk, string_bytes};
-ghost use Rattle.transcript.specs.Printed.{lines_from, final_line};
+ghost use Rattle.transcript.specs.Printed.{lines_from, line_of_fault, final_line};
 
-use session::End;
+use session::Stop;
 use std::alloc::{AllocError, Global};
 
 /// A line for each answer, with its place from 0.
@@ -10,8 +10,7 @@ pub(crate) fn answer_lines(heap: Global, answers: &[u8]) -> Result<String, Alloc
     ensures { IfOk result (λ s. string_bytes s ≡ lines_from 0 answers.now) }
 {
     let mut out = String::new(heap);
-    for place in 0..answers.len() {
-        let answer = answers[place];
+    for (place, answer) in answers.iter().enumerate() {
         let line = format!(in heap; "{place} {answer}\n")?;
         out.push_str(line.as_str())?;
     }
@@ -19,20 +18,22 @@ pub(crate) fn answer_lines(heap: Global, answers: &[u8]) -> Result<String, Alloc
 }
 
 /// The line of a bad call or a refused roll: its fault and its place. There is none where all calls were answered.
-pub(crate) fn last_line(heap: Global, end: End) -> Result<String, AllocError>
+pub(crate) fn last_line(heap: Global, end: Result<(), Stop>) -> Result<String, AllocError>
     ensures { IfOk result (λ s. string_bytes s ≡ final_line end) }
 {
-    match end {
-        End::BadCall(fault) => {
-            let number = fault.number();
-            let place = fault.place();
-            format!(in heap; "bad {number} {place}\n")
-        }
-        End::BadRoll(fault) => {
-            let number = fault.number();
-            let place = fault.place();
-            format!(in heap; "roll {number} {place}\n")
-        }
-        End::Whole | End::NoRoom => Ok(String::new(heap)),
+    let Err(stop) = end else {
+        return Ok(String::new(heap));
+    };
+    match stop {
+        Stop::BadCall(fault) => fault_line(heap, "bad", fault.number(), fault.place()),
+        Stop::BadRoll(fault) => fault_line(heap, "roll", fault.number(), fault.place()),
+        Stop::NoRoom => Ok(String::new(heap)),
     }
+}
+
+/// The line of a fault: a word for what has it, its number and its place.
+fn fault_line(heap: Global, word: &str, number: u8, place: usize) -> Result<String, AllocError>
+    ensures { IfOk result (λ s. string_bytes s ≡ line_of_fault word.now number place) }
+{
+    format!(in heap; "{word} {number} {place}\n")
 }

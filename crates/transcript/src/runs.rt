@@ -42,6 +42,7 @@ pub fn transcript<S: Scheme + Drop>(
     tell(heap, &mut guard, roll, calls, answers.as_mut_slice())
 }
 
+// Kept: each of the two is one line that names a label in use and pins what it means; what they share is `transcript`, which is generic.
 /// The same at the house label.
 pub fn house_transcript(heap: Global, roll: &[u8], calls: &[u8]) -> Result<String, AllocError>
     ensures { IfOk result (λ s. Printed house roll.now calls.now (string_bytes s)) }

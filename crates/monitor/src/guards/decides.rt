@@ -1,7 +1,6 @@
 //! The fourteen calls.
-ghost use Rattle.std.specs.Prelude.{◌≡◌};
 ghost use Rattle.calls.specs.Calls.{OneAnswer};
-ghost use Rattle.monitor.specs.Decides.{Decided};
+ghost use Rattle.monitor.specs.Decides.{Takes};
 
 use super::Guard;
 use calls::apply::apply;
@@ -13,9 +12,8 @@ use sound::views::View;
 impl<S: Scheme> Guard<S> {
     /// Decides a call and, if it is granted, changes the tables as it says. A refused call changes nothing.
     pub fn call(&mut self, call: Call) -> Result<(), Refusal>
-        ensures decided { Decided (S.Scheme.meaning self.old.scheme) self.old.tables call result self.new.tables }
+        ensures takes { Takes S.Scheme.meaning self.old call result self.new }
         ensures one { OneAnswer (S.Scheme.meaning self.old.scheme) }
-        ensures scheme { self.new.scheme ≡ self.old.scheme }
     {
         let view = View {
             scheme: &self.scheme,
@@ -28,8 +26,7 @@ impl<S: Scheme> Guard<S> {
 
     /// A user enters as a new subject.
     pub fn enter(&mut self, user: u8, number: u8, label: u64) -> Result<(), Refusal>
-        ensures decided { Decided (S.Scheme.meaning self.old.scheme) self.old.tables (Call.Enter user number label) result self.new.tables }
-        ensures scheme { self.new.scheme ≡ self.old.scheme }
+        ensures { Takes S.Scheme.meaning self.old (Call.Enter user number label) result self.new }
     {
         self.call(Call::Enter {
             user,
@@ -46,8 +43,7 @@ impl<S: Scheme> Guard<S> {
         number: u8,
         label: u64,
     ) -> Result<(), Refusal>
-        ensures decided { Decided (S.Scheme.meaning self.old.scheme) self.old.tables (Call.Launch subject program number label) result self.new.tables }
-        ensures scheme { self.new.scheme ≡ self.old.scheme }
+        ensures { Takes S.Scheme.meaning self.old (Call.Launch subject program number label) result self.new }
     {
         self.call(Call::Launch {
             subject,
@@ -59,24 +55,21 @@ impl<S: Scheme> Guard<S> {
 
     /// A subject leaves.
     pub fn leave(&mut self, subject: u8) -> Result<(), Refusal>
-        ensures decided { Decided (S.Scheme.meaning self.old.scheme) self.old.tables (Call.Leave subject) result self.new.tables }
-        ensures scheme { self.new.scheme ≡ self.old.scheme }
+        ensures { Takes S.Scheme.meaning self.old (Call.Leave subject) result self.new }
     {
         self.call(Call::Leave { subject })
     }
 
     /// A subject reads an object.
     pub fn read(&mut self, subject: u8, object: u8) -> Result<(), Refusal>
-        ensures decided { Decided (S.Scheme.meaning self.old.scheme) self.old.tables (Call.Read subject object) result self.new.tables }
-        ensures scheme { self.new.scheme ≡ self.old.scheme }
+        ensures { Takes S.Scheme.meaning self.old (Call.Read subject object) result self.new }
     {
         self.call(Call::Read { subject, object })
     }
 
     /// A subject writes to a file.
     pub fn write(&mut self, subject: u8, object: u8) -> Result<(), Refusal>
-        ensures decided { Decided (S.Scheme.meaning self.old.scheme) self.old.tables (Call.Write subject object) result self.new.tables }
-        ensures scheme { self.new.scheme ≡ self.old.scheme }
+        ensures { Takes S.Scheme.meaning self.old (Call.Write subject object) result self.new }
     {
         self.call(Call::Write { subject, object })
     }
@@ -90,8 +83,7 @@ impl<S: Scheme> Guard<S> {
         kind: u8,
         label: u64,
     ) -> Result<(), Refusal>
-        ensures decided { Decided (S.Scheme.meaning self.old.scheme) self.old.tables (Call.Create subject parent number kind label) result self.new.tables }
-        ensures scheme { self.new.scheme ≡ self.old.scheme }
+        ensures { Takes S.Scheme.meaning self.old (Call.Create subject parent number kind label) result self.new }
     {
         self.call(Call::Create {
             subject,
@@ -104,16 +96,14 @@ impl<S: Scheme> Guard<S> {
 
     /// A subject takes an object away, from its slot and from every allow list.
     pub fn delete(&mut self, subject: u8, object: u8) -> Result<(), Refusal>
-        ensures decided { Decided (S.Scheme.meaning self.old.scheme) self.old.tables (Call.Delete subject object) result self.new.tables }
-        ensures scheme { self.new.scheme ≡ self.old.scheme }
+        ensures { Takes S.Scheme.meaning self.old (Call.Delete subject object) result self.new }
     {
         self.call(Call::Delete { subject, object })
     }
 
     /// A subject puts an object under another container.
     pub fn move_object(&mut self, subject: u8, object: u8, parent: u8) -> Result<(), Refusal>
-        ensures decided { Decided (S.Scheme.meaning self.old.scheme) self.old.tables (Call.Move subject object parent) result self.new.tables }
-        ensures scheme { self.new.scheme ≡ self.old.scheme }
+        ensures { Takes S.Scheme.meaning self.old (Call.Move subject object parent) result self.new }
     {
         self.call(Call::Move {
             subject,
@@ -124,8 +114,7 @@ impl<S: Scheme> Guard<S> {
 
     /// A subject gives an object another label.
     pub fn raise(&mut self, subject: u8, object: u8, label: u64) -> Result<(), Refusal>
-        ensures decided { Decided (S.Scheme.meaning self.old.scheme) self.old.tables (Call.Raise subject object label) result self.new.tables }
-        ensures scheme { self.new.scheme ≡ self.old.scheme }
+        ensures { Takes S.Scheme.meaning self.old (Call.Raise subject object label) result self.new }
     {
         self.call(Call::Raise {
             subject,
@@ -136,24 +125,21 @@ impl<S: Scheme> Guard<S> {
 
     /// A subject marks a container as mixed.
     pub fn mix(&mut self, subject: u8, object: u8) -> Result<(), Refusal>
-        ensures decided { Decided (S.Scheme.meaning self.old.scheme) self.old.tables (Call.Mix subject object) result self.new.tables }
-        ensures scheme { self.new.scheme ≡ self.old.scheme }
+        ensures { Takes S.Scheme.meaning self.old (Call.Mix subject object) result self.new }
     {
         self.call(Call::Mix { subject, object })
     }
 
     /// A subject takes the mixed mark off a container.
     pub fn unmix(&mut self, subject: u8, object: u8) -> Result<(), Refusal>
-        ensures decided { Decided (S.Scheme.meaning self.old.scheme) self.old.tables (Call.Unmix subject object) result self.new.tables }
-        ensures scheme { self.new.scheme ≡ self.old.scheme }
+        ensures { Takes S.Scheme.meaning self.old (Call.Unmix subject object) result self.new }
     {
         self.call(Call::Unmix { subject, object })
     }
 
     /// A subject gives a user a set of rights on an object.
     pub fn rights(&mut self, subject: u8, object: u8, user: u8, mask: u8) -> Result<(), Refusal>
-        ensures decided { Decided (S.Scheme.meaning self.old.scheme) self.old.tables (Call.Rights subject object user mask) result self.new.tables }
-        ensures scheme { self.new.scheme ≡ self.old.scheme }
+        ensures { Takes S.Scheme.meaning self.old (Call.Rights subject object user mask) result self.new }
     {
         self.call(Call::Rights {
             subject,
@@ -165,8 +151,7 @@ impl<S: Scheme> Guard<S> {
 
     /// A subject puts a program on the allow list of a user.
     pub fn allow(&mut self, subject: u8, user: u8, program: u8) -> Result<(), Refusal>
-        ensures decided { Decided (S.Scheme.meaning self.old.scheme) self.old.tables (Call.Allow subject user program) result self.new.tables }
-        ensures scheme { self.new.scheme ≡ self.old.scheme }
+        ensures { Takes S.Scheme.meaning self.old (Call.Allow subject user program) result self.new }
     {
         self.call(Call::Allow {
             subject,
@@ -177,8 +162,7 @@ impl<S: Scheme> Guard<S> {
 
     /// A subject takes a program off the allow list of a user.
     pub fn bar(&mut self, subject: u8, user: u8, program: u8) -> Result<(), Refusal>
-        ensures decided { Decided (S.Scheme.meaning self.old.scheme) self.old.tables (Call.Bar subject user program) result self.new.tables }
-        ensures scheme { self.new.scheme ≡ self.old.scheme }
+        ensures { Takes S.Scheme.meaning self.old (Call.Bar subject user program) result self.new }
     {
         self.call(Call::Bar {
             subject,

@@ -53,16 +53,9 @@ impl<S: Scheme> Guard<S> {
         ensures saved { OnOk result (saved self.new.tables ≡ bytes.now) }
         ensures secure { OnOk result (AllSecure (S.Scheme.meaning self.new.scheme) self.new.tables) }
     {
-        match load_tables(&self.scheme, bytes) {
-            Ok(tables) => {
-                self.tables = tables;
-                Ok(())
-            }
-            Err(fault) => {
-                self.tables = Tables::blank();
-                Err(fault)
-            }
-        }
+        self.tables = Tables::blank();
+        self.tables = load_tables(&self.scheme, bytes)?;
+        Ok(())
     }
 
     /// The tables, to look at.

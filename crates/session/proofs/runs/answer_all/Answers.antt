@@ -32,9 +32,9 @@ loop-next-preserved g c =
     let k : InForm x × Took c.loop-next.c c.next_call.new.c (encode x) = rw c.in-Ok.is at t.1 in
     let go = c.loop-next.invariant.0 in
     let h = room go x k.1 c.requires in
-    let done = subst (λ s. Decided (g.S.Scheme.meaning s) c.loop-next.guard.tables x c.call-answer.result c.call-answer.new.self.tables) c.loop-next.invariant.1 c.call-answer.ensures.decided in (
+    let done = subst (λ s. Decided (g.S.Scheme.meaning s) c.loop-next.guard.tables x c.call-answer.result c.call-answer.new.self.tables) c.loop-next.invariant.1 c.call-answer.ensures.takes.decided in (
       going_more go x c.call-answer.result k.0 k.1 done h (ap (λ (v : ℕ). set c.loop-next.answers c.loop-next.answered v) c.number_of.ensures),
-      c.call-answer.ensures.scheme ∙ c.loop-next.invariant.1,
+      c.call-answer.ensures.takes.scheme ∙ c.loop-next.invariant.1,
     )
 
 pub returns-in-Err : goal.returns-in-Err
