@@ -83,9 +83,6 @@ module _ {a b : Cursor} {bits k n : ℕ} (h : Head a b bits k n) where
     )
     failed (Order q) w = absurd w
 
-clash : {A : Type 0} → ◌≡◌ {A = ℕ} 1 2 → A
-clash e = absurd (omega arith)
-
 pub user_only : (bits n : ℕ) (bs : List ℕ) (x : Record) (rest : List ℕ) → InForm x → bits ∷ 1 ∷ n ∷ bs ≡ encode x ++ rest → (y : UserRecord) × users.Formed y × (users.map y ≡ bits) × (users.number y ≡ n) × (bs ≡ users.body y ++ rest)
 user_only bits n bs (record_of.User u) rest h e = (u, h.0, (cc), (cc), (cc))
 user_only bits n bs (record_of.Group g) rest h e = let z : ◌≡◌ {A = ℕ} 1 2 = cc in absurd (omega arith)

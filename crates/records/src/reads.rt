@@ -182,15 +182,18 @@ pub fn read_record(c: &mut Cursor) -> Result<Record, RecordFault>
     let [map, kind, number] = *c.array::<3>()?;
     let head = Head { map, number };
     match kind {
-        Record::USER if number < UserRecord::ROOM && map < UserRecord::MAPS => Ok(Record::User(user(
-            c, head,
-        )?)),
-        Record::GROUP if number < GroupRecord::ROOM && map < GroupRecord::MAPS => Ok(Record::Group(
-            group(c, head)?,
-        )),
-        Record::OBJECT if number < ObjectRecord::ROOM && map < ObjectRecord::MAPS => Ok(
-            Record::Object(object(c, head)?),
-        ),
+        Record::USER if number < UserRecord::ROOM && map < UserRecord::MAPS => {
+            let u = user(c, head)?;
+            Ok(Record::User(u))
+        }
+        Record::GROUP if number < GroupRecord::ROOM && map < GroupRecord::MAPS => {
+            let g = group(c, head)?;
+            Ok(Record::Group(g))
+        }
+        Record::OBJECT if number < ObjectRecord::ROOM && map < ObjectRecord::MAPS => {
+            let o = object(c, head)?;
+            Ok(Record::Object(o))
+        }
         _ => Err(RecordFault::Form(c.first())),
     }
 }
