@@ -36,7 +36,7 @@ pub fn read_rights(part: &[u8]) -> Option<[u8; 16]>
     if part.is_empty() {
         return Some([0; 16]);
     }
-    let (map, bytes) = part.split_first_chunk()?;
+    let (map, bytes) = part.split_first_chunk::<2>()?;
     let users = u16::from_le_bytes(*map);
     if users == 0 {
         return None;
