@@ -7,7 +7,7 @@ use Rattle.tables.specs.declared.types.Tables.{Tables}
 use Rattle.tables.specs.State.{object, object_at, blank_object}
 use Rattle.tables.specs.Ways.{Under, Above}
 use Rattle.tables.proofs.Climb.{WithinSteps, short_way, below_step, climb_found, climb_back, climb_on}
-use Rattle.sound.specs.Nesting.{Unmixed, Holds, HeldAbove, HeldOver}
+use Rattle.sound.specs.Nesting.{Unmixed, Holds, HeldAbove, HeldOver, HeldOverAt}
 
 module _ (m : Meaning) (t : Tables) (l : ℕ) where
   -- a is no unmixed container, or holds l
@@ -43,11 +43,6 @@ module _ (t : Tables) (x : ℕ) (o : Object) (is : Some o ≡ object_at t x) (of
       let up : (object t x).parent ≡ o.parent = sym (ap (λ (y : Option Object). (unwrap_or y blank_object).parent) is) in
       elim (below_step b) [ inl e ↦ inl (sym e ∙ up) | inr c ↦ inr (subst (λ (w : ℕ). Under t w a) up c) ]
 
-  -- so every unmixed container over it holds its label exactly if those from its parent up do
-  pub held_over : (m : Meaning) (r : Bool) → Decides r (HeldAbove m t o.parent o.label)
-      → Decides r (HeldOver m t x)
-  held_over m r d =
-      let its : o.label ≡ (object t x).label = ap (λ (y : Option Object). (unwrap_or y blank_object).label) is in (
-        (λ e a b. subst (λ (k : ℕ). Unmixed t a → Holds m t a k) its (d.0 e a (under_above a b))),
-        λ all. d.1 (λ a b. subst (λ (k : ℕ). Unmixed t a → Holds m t a k) (sym its) (all a (above_under a b))),
-      )
+-- what is decided of the label that was found at x is decided of x
+pub found_over : (m : Meaning) (t : Tables) (x : ℕ) (o : Object) → Some o ≡ object_at t x → (r : Bool) → Decides r (HeldOverAt m t x o.label) → Decides r (HeldOver m t x)
+found_over m t x o is r = subst (λ (k : ℕ). Decides r (HeldOverAt m t x k)) (ap (λ (y : Option Object). (unwrap_or y blank_object).label) is)

@@ -23,9 +23,13 @@ HeldAbove m t p l = (a : ℕ) → Above t p a → Unmixed t a → Holds m t a l
 abbrev pub HoldsUnder : Meaning → Tables → ℕ → ℕ → Type 0
 HoldsUnder m t o l = (x : ℕ) → Under t x o → m.hold l (object t x).label ≡ true
 
+-- each unmixed container over o holds l
+abbrev pub HeldOverAt : Meaning → Tables → ℕ → ℕ → Type 0
+HeldOverAt m t o l = (a : ℕ) → Under t o a → Unmixed t a → Holds m t a l
+
 -- each unmixed container over x holds its label
 abbrev pub HeldOver : Meaning → Tables → ℕ → Type 0
-HeldOver m t x = (a : ℕ) → Under t x a → Unmixed t a → Holds m t a (object t x).label
+HeldOver m t x = HeldOverAt m t x (object t x).label
 
 -- each unmixed container holds the label of every object under it, at any depth
 abbrev pub Nested : Meaning → Tables → Type 0

@@ -14,3 +14,4 @@ pub mod nesting;
 mod owners;
 mod trees;
 pub mod verdicts;
+pub mod views;

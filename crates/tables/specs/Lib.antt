@@ -1,4 +1,5 @@
 pub mod Changes
+pub mod Kinds
 pub mod Rights
 pub mod Sets
 pub mod State

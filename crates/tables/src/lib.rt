@@ -5,6 +5,7 @@
 #![tactic(auto)]
 
 pub mod changes;
+pub mod kinds;
 pub mod readers;
 pub mod rights;
 pub mod sets;

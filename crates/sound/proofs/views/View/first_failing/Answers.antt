@@ -1,33 +1,33 @@
 use Rattle.std.proofs.lemmas.Bool.Decides.{not_from_Decides}
 use Rattle.sound.specs.declared.clauses.Clause.TheVariants.{Groups, Labels, Tree, Owners, Lists, Administrator, Nesting, Mixed}
 use Rattle.sound.proofs.Firsts.{before_none, before_more, before_all}
-use Rattle.sound.proofs.verdicts.first_failing.Goals as goal
+use Rattle.sound.proofs.views.View.first_failing.Goals as goal
 
 pub returns-then-not-groups_exist : goal.returns-then-not-groups_exist
 returns-then-not-groups_exist g c =
-    let m = g.S.Scheme.meaning c.args.scheme.now in
-    let t = c.args.t.now in
+    let m = g.S.Scheme.meaning c.args.self.now.scheme.now in
+    let t = c.args.self.now.tables.now in
     record { before = before_none m t; fails = not_from_Decides c.groups_exist.result c.groups_exist.ensures c.if-not-groups_exist.true }
 
 pub returns-then-not-labels_hold : goal.returns-then-not-labels_hold
 returns-then-not-labels_hold g c =
-    let m = g.S.Scheme.meaning c.args.scheme.now in
-    let t = c.args.t.now in
+    let m = g.S.Scheme.meaning c.args.self.now.scheme.now in
+    let t = c.args.self.now.tables.now in
     let b1 = before_more m t Groups (before_none m t) (c.groups_exist.ensures.0 c.if-not-groups_exist.false) in
     record { before = b1; fails = not_from_Decides c.labels_hold.result c.labels_hold.ensures c.if-not-labels_hold.true }
 
 pub returns-then-not-tree_stands : goal.returns-then-not-tree_stands
 returns-then-not-tree_stands g c =
-    let m = g.S.Scheme.meaning c.args.scheme.now in
-    let t = c.args.t.now in
+    let m = g.S.Scheme.meaning c.args.self.now.scheme.now in
+    let t = c.args.self.now.tables.now in
     let b1 = before_more m t Groups (before_none m t) (c.groups_exist.ensures.0 c.if-not-groups_exist.false) in
     let b2 = before_more m t Labels b1 (c.labels_hold.ensures.0 c.if-not-labels_hold.false) in
     record { before = b2; fails = not_from_Decides c.tree_stands.result c.tree_stands.ensures c.if-not-tree_stands.true }
 
 pub returns-then-not-owners_exist : goal.returns-then-not-owners_exist
 returns-then-not-owners_exist g c =
-    let m = g.S.Scheme.meaning c.args.scheme.now in
-    let t = c.args.t.now in
+    let m = g.S.Scheme.meaning c.args.self.now.scheme.now in
+    let t = c.args.self.now.tables.now in
     let b1 = before_more m t Groups (before_none m t) (c.groups_exist.ensures.0 c.if-not-groups_exist.false) in
     let b2 = before_more m t Labels b1 (c.labels_hold.ensures.0 c.if-not-labels_hold.false) in
     let b3 = before_more m t Tree b2 (c.tree_stands.ensures.0 c.if-not-tree_stands.false) in
@@ -35,8 +35,8 @@ returns-then-not-owners_exist g c =
 
 pub returns-then-not-lists_hold : goal.returns-then-not-lists_hold
 returns-then-not-lists_hold g c =
-    let m = g.S.Scheme.meaning c.args.scheme.now in
-    let t = c.args.t.now in
+    let m = g.S.Scheme.meaning c.args.self.now.scheme.now in
+    let t = c.args.self.now.tables.now in
     let b1 = before_more m t Groups (before_none m t) (c.groups_exist.ensures.0 c.if-not-groups_exist.false) in
     let b2 = before_more m t Labels b1 (c.labels_hold.ensures.0 c.if-not-labels_hold.false) in
     let b3 = before_more m t Tree b2 (c.tree_stands.ensures.0 c.if-not-tree_stands.false) in
@@ -45,8 +45,8 @@ returns-then-not-lists_hold g c =
 
 pub returns-then-not-administrator_exists : goal.returns-then-not-administrator_exists
 returns-then-not-administrator_exists g c =
-    let m = g.S.Scheme.meaning c.args.scheme.now in
-    let t = c.args.t.now in
+    let m = g.S.Scheme.meaning c.args.self.now.scheme.now in
+    let t = c.args.self.now.tables.now in
     let b1 = before_more m t Groups (before_none m t) (c.groups_exist.ensures.0 c.if-not-groups_exist.false) in
     let b2 = before_more m t Labels b1 (c.labels_hold.ensures.0 c.if-not-labels_hold.false) in
     let b3 = before_more m t Tree b2 (c.tree_stands.ensures.0 c.if-not-tree_stands.false) in
@@ -56,8 +56,8 @@ returns-then-not-administrator_exists g c =
 
 pub returns-then-not-labels_nest : goal.returns-then-not-labels_nest
 returns-then-not-labels_nest g c =
-    let m = g.S.Scheme.meaning c.args.scheme.now in
-    let t = c.args.t.now in
+    let m = g.S.Scheme.meaning c.args.self.now.scheme.now in
+    let t = c.args.self.now.tables.now in
     let b1 = before_more m t Groups (before_none m t) (c.groups_exist.ensures.0 c.if-not-groups_exist.false) in
     let b2 = before_more m t Labels b1 (c.labels_hold.ensures.0 c.if-not-labels_hold.false) in
     let b3 = before_more m t Tree b2 (c.tree_stands.ensures.0 c.if-not-tree_stands.false) in
@@ -68,8 +68,8 @@ returns-then-not-labels_nest g c =
 
 pub returns-then-not-only_containers_mixed : goal.returns-then-not-only_containers_mixed
 returns-then-not-only_containers_mixed g c =
-    let m = g.S.Scheme.meaning c.args.scheme.now in
-    let t = c.args.t.now in
+    let m = g.S.Scheme.meaning c.args.self.now.scheme.now in
+    let t = c.args.self.now.tables.now in
     let b1 = before_more m t Groups (before_none m t) (c.groups_exist.ensures.0 c.if-not-groups_exist.false) in
     let b2 = before_more m t Labels b1 (c.labels_hold.ensures.0 c.if-not-labels_hold.false) in
     let b3 = before_more m t Tree b2 (c.tree_stands.ensures.0 c.if-not-tree_stands.false) in
@@ -81,8 +81,8 @@ returns-then-not-only_containers_mixed g c =
 
 pub returns : goal.returns
 returns g c =
-    let m = g.S.Scheme.meaning c.args.scheme.now in
-    let t = c.args.t.now in
+    let m = g.S.Scheme.meaning c.args.self.now.scheme.now in
+    let t = c.args.self.now.tables.now in
     let b1 = before_more m t Groups (before_none m t) (c.groups_exist.ensures.0 c.if-not-groups_exist.false) in
     let b2 = before_more m t Labels b1 (c.labels_hold.ensures.0 c.if-not-labels_hold.false) in
     let b3 = before_more m t Tree b2 (c.tree_stands.ensures.0 c.if-not-tree_stands.false) in

@@ -4,7 +4,7 @@ use Rattle.tables.specs.State.{object_at}
 use Rattle.tables.proofs.Climb.{short_way, below_off_root, empty_off, climb_found, climb_back, no_steps}
 use Rattle.sound.proofs.Every.{yes, no}
 use Rattle.sound.proofs.Walk.{left_on, left_none}
-use Rattle.sound.proofs.nesting.held_above.Goals as goal
+use Rattle.sound.proofs.views.View.held_above.Goals as goal
 
 pub loop-step-init : goal.loop-step-init
 loop-step-init g c = (c.held_at.ensures.0 c.if-not-held_at.false, (λ a b. let s = short_way b in inr (s.0, (let h = s.1 in omega arith))), λ a b. b)
@@ -12,16 +12,16 @@ loop-step-init g c = (c.held_at.ensures.0 c.if-not-held_at.false, (λ a b. let s
 pub returns-in_default : goal.returns-in_default
 returns-in_default g c =
     let i = c.loop-step.invariant in
-    yes (left_none (g.S.Scheme.meaning c.args.scheme.now) c.args.t.now c.args.l c.args.p c.loop-step.at _ i.0 i.1 (λ a w. empty_off c.in_default.ensures w.0))
+    yes (left_none (g.S.Scheme.meaning c.args.self.now.scheme.now) c.args.self.now.tables.now c.args.l c.args.p c.loop-step.at _ i.0 i.1 (λ a w. empty_off c.in_default.ensures w.0))
 
 pub returns-then-at-eq0 : goal.returns-then-at-eq0
 returns-then-at-eq0 g c =
     let i = c.loop-step.invariant in
-    yes (left_none (g.S.Scheme.meaning c.args.scheme.now) c.args.t.now c.args.l c.args.p c.loop-step.at _ i.0 i.1 (λ a w. below_off_root w.0 c.if-at-eq0.true))
+    yes (left_none (g.S.Scheme.meaning c.args.self.now.scheme.now) c.args.self.now.tables.now c.args.l c.args.p c.loop-step.at _ i.0 i.1 (λ a w. below_off_root w.0 c.if-at-eq0.true))
 
 pub returns-then-not-held_at-2 : goal.returns-then-not-held_at-2
 returns-then-not-held_at-2 g c =
-    let t = c.args.t.now in
+    let t = c.args.self.now.tables.now in
     let at = c.loop-step.at in
     let o = c.in-Some.object.now in
     let is : Some o ≡ object_at t at = c.in-Some.ensures in
@@ -30,8 +30,8 @@ returns-then-not-held_at-2 g c =
 
 pub loop-step-preserved : goal.loop-step-preserved
 loop-step-preserved g c =
-    let t = c.args.t.now in
-    let m = g.S.Scheme.meaning c.args.scheme.now in
+    let t = c.args.self.now.tables.now in
+    let m = g.S.Scheme.meaning c.args.self.now.scheme.now in
     let at = c.loop-step.at in
     let step = c.loop-step._step in
     let o = c.in-Some.object.now in
@@ -45,5 +45,5 @@ loop-step-preserved g c =
 pub returns : goal.returns
 returns g c =
     let i = c.loop-step.invariant in
-    let k = length c.args.t.now.objects - c.loop-step._step in
-    yes (left_none (g.S.Scheme.meaning c.args.scheme.now) c.args.t.now c.args.l c.args.p c.loop-step.at k i.0 i.1 (λ a w. no_steps k (omega arith) w))
+    let k = length c.args.self.now.tables.now.objects - c.loop-step._step in
+    yes (left_none (g.S.Scheme.meaning c.args.self.now.scheme.now) c.args.self.now.tables.now c.args.l c.args.p c.loop-step.at k i.0 i.1 (λ a w. no_steps k (omega arith) w))

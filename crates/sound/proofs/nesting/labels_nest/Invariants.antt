@@ -1,6 +1,0 @@
-use Rattle.std.proofs.Common.{ℕ, ◌<◌}
-use Rattle.sound.specs.Nesting.{HeldOver}
-use Rattle.sound.proofs.nesting.labels_nest.Given as goal
-
-abbrev pub invariant-loop-x : goal.invariant-loop-x
-invariant-loop-x g l = (k : ℕ) → k < l.x → HeldOver (g.S.Scheme.meaning l.scheme) l.t k
