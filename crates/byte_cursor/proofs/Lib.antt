@@ -1,2 +1,1 @@
-pub mod Little
-pub mod Cuts
+pub mod Powers

@@ -2,5 +2,7 @@
 #![tactic(auto)]
 
 mod cursors;
+mod little;
 
 pub use cursors::{Cursor, CursorFault};
+pub use little::Little;

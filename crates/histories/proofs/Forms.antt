@@ -21,7 +21,8 @@ use Rattle.tables.proofs.Puts.{within, at_put, at_map}
 use Rattle.records.specs.Records.{InForm}
 use Rattle.records.specs.Rights.{RightsForm}
 use Rattle.roll.specs.Formed.{Sized, Formed}
-use Rattle.roll.specs.Slots.{kind_of, number_of_kind, user_record, group_record, object_record, rights_byte}
+use Rattle.tables.specs.Kinds.{kind_of, number_of_kind}
+use Rattle.roll.specs.Slots.{user_record, group_record, object_record, rights_byte}
 use Rattle.calls.specs.declared.types.Call.{Call}
 use Rattle.calls.specs.declared.types.Call.TheVariants.{Enter, Launch, Leave, Read, Write, Create, Delete, Move, Raise, Mix, Unmix, Rights, Allow, Bar}
 use Rattle.calls.specs.Calls.{asks, AllFine}

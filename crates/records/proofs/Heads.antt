@@ -10,7 +10,7 @@ use Rattle.records.specs.declared.forms.RecordFault.{RecordFault}
 use Rattle.records.specs.declared.forms.RecordFault.TheVariants.{Bytes, Form, Order}
 use Rattle.byte_cursor.specs.Bytes.{left, Took}
 use Rattle.records.specs.Rights.{marks_number}
-use Rattle.records.specs.Records.{Layout, users, groups, objects, Taken, Failed, encode, InForm, table_of, maps_of, tail_size, Known, Faulty}
+use Rattle.records.specs.Records.{Layout, users, groups, objects, Failed, encode, InForm, table_of, maps_of, tail_size, Known, Faulty}
 use Rattle.records.proofs.Fields.{took_more}
 
 three : (h : List ℕ) → length h ≡ 3 → h ≡ get_or h 0 0 ∷ get_or h 1 0 ∷ get_or h 2 0 ∷ []
@@ -27,6 +27,9 @@ pub record Head (a b : Cursor) (bits k n : ℕ) : Type 0 where
 
 pub head_read : {a a₁ b : Cursor} (h : List ℕ) → Took a a₁ [] → a₁.first ≡ a.place → Took a₁ b h → length h ≡ 3 → b.first ≡ a₁.first → Head a b (get_or h 0 0) (get_or h 1 0) (get_or h 2 0)
 head_read {a} {a₁} {b} h t f u l g = record { took = subst (Took a b) (three h l) (took_more [] h t u); first = g ∙ f }
+
+pub as_kind : {a b : Cursor} {bits k n l : ℕ} → k ≡ l → Head a b bits k n → Head a b bits l n
+as_kind {a} {b} {bits} {k} {n} e h = subst (λ k. Head a b bits k n) e h
 
 cond_le : (z : Bool) (w : ℕ) → (cond z 0 w ≤ w) × (cond z w 0 ≤ w)
 cond_le true w = (omega arith, omega arith)
@@ -80,9 +83,6 @@ module _ {a b : Cursor} {bits k n : ℕ} (h : Head a b bits k n) where
     )
     failed (Order q) w = absurd w
 
-clash : {A : Type 0} → ◌≡◌ {A = ℕ} 1 2 → A
-clash e = absurd (omega arith)
-
 pub user_only : (bits n : ℕ) (bs : List ℕ) (x : Record) (rest : List ℕ) → InForm x → bits ∷ 1 ∷ n ∷ bs ≡ encode x ++ rest → (y : UserRecord) × users.Formed y × (users.map y ≡ bits) × (users.number y ≡ n) × (bs ≡ users.body y ++ rest)
 user_only bits n bs (record_of.User u) rest h e = (u, h.0, (cc), (cc), (cc))
 user_only bits n bs (record_of.Group g) rest h e = let z : ◌≡◌ {A = ℕ} 1 2 = cc in absurd (omega arith)
@@ -97,10 +97,6 @@ pub object_only : (bits n : ℕ) (bs : List ℕ) (x : Record) (rest : List ℕ) 
 object_only bits n bs (record_of.User u) rest h e = let z : ◌≡◌ {A = ℕ} 3 1 = cc in absurd (omega arith)
 object_only bits n bs (record_of.Group g) rest h e = let z : ◌≡◌ {A = ℕ} 3 2 = cc in absurd (omega arith)
 object_only bits n bs (record_of.Object o) rest h e = (o, h.0, (cc), (cc), (cc))
-
--- the fields of a kind behind its head make a record
-pub made : {X : Type 0} (L : Layout X) {a b c : Cursor} {bits k n : ℕ} {x : X} → Head a b bits k n → Taken L bits n b c x → Took a c (L.map x ∷ k ∷ L.number x ∷ L.body x)
-made L {a} {b} {c} {bits} {k} {n} {x} h t = subst (λ l. Took a c l) (λ i. sym t.maps i ∷ k ∷ sym t.named i ∷ L.body x) (took_more (bits ∷ k ∷ n ∷ []) (L.body x) h.took t.took)
 
 -- no other kind has a table
 pub no_table : (k : ℕ) → (k ≡ 1 → ⊥) → (k ≡ 2 → ⊥) → (k ≡ 3 → ⊥) → table_of k ≡ 0

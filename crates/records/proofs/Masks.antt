@@ -1,11 +1,12 @@
 -- The two bytes of the map in front of the rights.
-use Rattle.std.proofs.Common.{◌≡◌, ℕ, suc, ◌+◌, ◌-◌, ◌*◌, ◌/◌, ◌%◌, ◌^◌, ◌<◌, ◌≤◌, Bool, true, false, cond, not, eqb, List, [], ◌∷◌, ◌++◌, length, get_or, drop, Some, None, Option, sym, refl, ap, ◌∙◌, subst, pow-suc, arith, pow_mono}
+use Rattle.std.proofs.Common.{◌≡◌, ℕ, suc, ◌+◌, ◌*◌, ◌/◌, ◌%◌, ◌^◌, ◌<◌, ◌≤◌, Bool, true, false, cond, not, eqb, List, [], ◌∷◌, ◌++◌, length, get_or, take, drop, Some, None, Option, sym, refl, ap, ◌∙◌, subst, pow-suc, arith, pow_mono}
 use lib.Count.{ones, ones_step}
-use Rattle.std.proofs.lemmas.List.{drop_more}
+use Rattle.std.specs.Int.{from_bool}
+use Rattle.std.proofs.lemmas.List.{take_more, length-take-le}
 use Rattle.std.specs.Option as options
 use Rattle.std.proofs.lemmas.Bool.{eqb-true, eqb-false, ne_eqb}
 use Rattle.byte_cursor.specs.Bytes.{le}
-use Rattle.records.specs.Rights.{rights_size, marks_number, bytes_of, RightsForm, rights_body, Marked}
+use Rattle.records.specs.Rights.{rights_size, marks_over, marks_number, bytes_of, RightsForm, rights_body, Marked}
 
 bit_le : (z : Bool) → cond z 0 1 ≤ 1
 bit_le true = omega arith
@@ -26,6 +27,19 @@ two_front : (p : List ℕ) → 2 ≤ length p → p ≡ get_or p 0 0 ∷ get_or 
 two_front [] h = absurd (omega arith)
 two_front (a ∷ []) h = absurd (omega arith)
 two_front (a ∷ b ∷ p) h = refl
+
+-- the first two of a part
+front_first : (p : List ℕ) → get_or (take 2 p) 0 0 ≡ get_or p 0 0
+front_first [] = refl
+front_first (a ∷ p) = refl
+
+front_second : (p : List ℕ) → get_or (take 2 p) 1 0 ≡ get_or p 1 0
+front_second [] = refl
+front_second (a ∷ []) = refl
+front_second (a ∷ b ∷ p) = refl
+
+pub map_is : (p m : List ℕ) {v : ℕ} → m ≡ take 2 p → v ≡ get_or m 0 0 + get_or m 1 0 * 256 → v ≡ get_or p 0 0 + get_or p 1 0 * 256
+map_is p m e is = is ∙ ap (λ l. get_or l 0 0 + get_or l 1 0 * 256) e ∙ (λ i. front_first p i + front_second p i * 256)
 
 -- what a part that writes rights tells of them
 pub record Tells (p rs : List ℕ) : Type 0 where
@@ -57,16 +71,31 @@ pub some_weaker : {A B : Type 0} {X : Type 0} {P Q : X → Type 0} (o : Option X
 some_weaker None h f g = f h
 some_weaker (Some x) h f g = g x h
 
-pub marks_small : (rs : List ℕ) (k : ℕ) → length rs ≤ k → marks_number rs < 2 ^ k
-marks_small rs k h = omega (arith, marks_lt rs, pow_mono h)
+-- one user more behind
+pub marks_snoc : (P : List ℕ) (b m : ℕ) → marks_over (P ++ b ∷ []) m ≡ marks_over P (cond (eqb b 0) 0 1 + 2 * m)
+marks_snoc [] b m = refl
+marks_snoc (x ∷ P) b m = ap (λ k. cond (eqb x 0) 0 1 + 2 * k) (marks_snoc P b m)
 
--- one user more in front
-pub marks_more : (rs : List ℕ) (u m b : ℕ) → 0 < u → u ≤ length rs → m ≡ marks_number (drop u rs) → b ≡ cond (eqb (get_or rs (u - 1) 0) 0) 0 1 → 2 * m + b ≡ marks_number (drop (u - 1) rs)
-marks_more rs u m b p h is e =
-    let back : u - 1 + 1 ≡ u = omega arith in
-    let d = drop_more rs (u - 1) 0 (omega arith) ∙ ap (λ k. get_or rs (u - 1) 0 ∷ drop k rs) back in
-    let s : marks_number (drop (u - 1) rs) ≡ cond (eqb (get_or rs (u - 1) 0) 0) 0 1 + 2 * marks_number (drop u rs) = ap marks_number d in
-    omega arith
+one_above : (P : List ℕ) → marks_over P 1 ≡ marks_number P + 2 ^ length P
+one_above [] = omega arith
+one_above (x ∷ P) = let p : 2 ^ suc (length P) ≡ 2 ^ length P * 2 = pow-suc 2 (length P) in omega (arith, one_above P)
+
+placed : (z : Bool) (P : List ℕ) (u : ℕ) → length P ≡ u → u < 16 → (marks_number P + (from_bool (not z) * 2 ^ u) % 65536 < 65536) × (marks_number P + (from_bool (not z) * 2 ^ u) % 65536 ≡ marks_over P (cond z 0 1 + 2 * 0))
+placed true P u e lt =
+    let h : 2 ^ length P ≤ 2 ^ 15 = pow_mono {i = length P} {j = 15} (omega arith) in
+    (omega (arith, marks_lt P), omega arith)
+placed false P u e lt =
+    let h : 2 ^ u ≤ 2 ^ 15 = pow_mono {i = u} {j = 15} (omega arith) in
+    let q : 2 ^ length P ≡ 2 ^ u = ap (λ k. 2 ^ k) e in
+    (omega (arith, marks_lt P), omega (arith, one_above P))
+
+pub marks_more : (rs : List ℕ) (u m b : ℕ) → length rs ≡ 16 → u < 16 → m ≡ marks_number (take u rs) → b ≡ from_bool (not (eqb (get_or rs u 0) 0)) → (m + (b * 2 ^ u) % 65536 < 65536) × (m + (b * 2 ^ u) % 65536 ≡ marks_number (take (u + 1) rs))
+marks_more rs u m b n lt is there =
+    let l = length-take-le u rs (omega arith) in
+    let h = placed (eqb (get_or rs u 0) 0) (take u rs) u l lt in
+    let e = ap marks_number (take_more rs u 0 (omega arith)) ∙ marks_snoc (take u rs) (get_or rs u 0) 0 in
+    let same : m + (b * 2 ^ u) % 65536 ≡ marks_number (take u rs) + (from_bool (not (eqb (get_or rs u 0) 0)) * 2 ^ u) % 65536 = λ i. is i + (there i * 2 ^ u) % 65536 in
+    (omega arith, same ∙ h.1 ∙ sym e)
 
 ones_front : (z : Bool) (b M : ℕ) (bs : List ℕ) → ones M ≡ length bs → ones (cond z 0 1 + 2 * M) ≡ length (cond z bs (b ∷ bs))
 ones_front true b M bs e =

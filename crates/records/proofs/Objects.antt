@@ -5,7 +5,8 @@ use Rattle.std.proofs.lemmas.List.{drop-drop, take_at, drop_at}
 use Rattle.byte_cursor.specs.declared.cursors.Cursor.{Cursor}
 use Rattle.records.specs.declared.forms.ObjectRecord.{ObjectRecord}
 use Rattle.records.specs.declared.forms.RecordFault.TheVariants.{Form}
-use Rattle.byte_cursor.specs.Bytes.{left, Took, Field, field_if}
+use Rattle.byte_cursor.specs.declared.cursors.CursorFault.{CursorFault}
+use Rattle.byte_cursor.specs.Bytes.{left, Took, Field, Short, field_if}
 use Rattle.records.specs.Records.{bit_of, field, has, fixed, objects, ObjectForm, Taken, NoneThere, Failed}
 use Rattle.records.specs.Rights.{rights_size, marks_number, RightsForm, rights_body}
 use Rattle.records.proofs.Fields.{bit_tells, bit_at, bit_parts, took_more, field_took, step, field_length, length_field_if}
@@ -132,8 +133,11 @@ module _ (bits n : ℕ) {a₀ a₁ a₂ a₃ a₄ a₅ : Cursor} {pa ki ow la gr
     object_unwritten q e f bad = (e ∙ f ∙ object_first, object_there, object_none bad)
 
     module _ (rs : List ℕ) (form : RightsForm rs) (is : p ≡ rights_body rs) where
+      abbrev pub read_as : Bool → ObjectRecord
+      read_as mixed = record { number = n; parent = pa; kind = ki; owner = ow; label = la; mixed = mixed; groups = gr; rights = rs }
+
       abbrev read : ObjectRecord
-      read = record { number = n; parent = pa; kind = ki; owner = ow; label = la; mixed = has bits 16; groups = gr; rights = rs }
+      read = read_as (has bits 16)
 
       pub object_taken : objects.map read ≡ bits → ki ≤ 2 → Taken objects bits n a₀ a₆ read
       object_taken m k =
@@ -152,9 +156,20 @@ module _ (bits n : ℕ) {a₀ a₁ a₂ a₃ a₄ a₅ : Cursor} {pa ki ow la gr
           let m' : objects.map read ≡ bits = (λ i. bit_of 1 (s.same_parent i) + bit_of 2 (s.same_kind i) + bit_of 4 (s.same_owner i) + bit_of 8 (s.same_label i) + cond (s.same_mixed i) 16 0 + bit_of 32 (s.same_groups i) + bit_of 64 (marks i)) ∙ m in
           omega (arith, bad m', h.kind, s.same_kind)
 
-      -- by the map that was found
-      pub object_read : {m : ℕ} → m ≡ objects.map read → m ≡ bits → ki ≤ 2 → Taken objects bits n a₀ a₆ read
-      object_read e b k = object_taken (sym e ∙ b) k
+      -- by the bit and the map that were found
+      module _ {mixed : Bool} (is_mixed : mixed ≡ has bits 16) {m : ℕ} (found : m ≡ objects.map (read_as mixed)) where
+        same_map : m ≡ objects.map read
+        same_map = found ∙ ap (λ b. objects.map (read_as b)) is_mixed
 
-      pub object_unlike : (q : ℕ) → q ≡ a₆.first → a₆.first ≡ a₅.first → {m : ℕ} → m ≡ objects.map read → (m ≡ bits → ⊥) ⊎ ((m ≡ bits) × (2 < ki)) → Failed objects bits n a₀ (Form q)
-      object_unlike q e f m either = (e ∙ f ∙ object_first, object_there, object_other (λ b. ⊎_elim (λ ne. absurd (ne (m ∙ b))) (λ two. two.1) either))
+        pub object_read : m ≡ bits → ki ≤ 2 → Taken objects bits n a₀ a₆ (read_as mixed)
+        object_read b k = subst (λ t. Taken objects bits n a₀ a₆ (read_as t)) (sym is_mixed) (object_taken (sym same_map ∙ b) k)
+
+        pub object_unlike : (q : ℕ) → q ≡ a₆.first → a₆.first ≡ a₅.first → (m ≡ bits → ⊥) ⊎ ((m ≡ bits) × (2 < ki)) → Failed objects bits n a₀ (Form q)
+        object_unlike q e f either = (e ∙ f ∙ object_first, object_there, object_other (λ b. ⊎_elim (λ ne. absurd (ne (same_map ∙ b))) (λ two. two.1) either))
+
+-- a part that a bit of the map stands for, by the test of the bit
+pub part_long : {there bit : Bool} (k : ℕ) {n : ℕ} → there ≡ bit → n ≡ cond there k 0 → n ≡ cond bit k 0
+part_long k is e = e ∙ ap (λ t. cond t k 0) is
+
+pub part_short : {there bit : Bool} (k : ℕ) {a b : Cursor} {e : CursorFault} → there ≡ bit → Short (cond there k 0) a b e → Short (cond bit k 0) a b e
+part_short k {a} {b} {e} is s = subst (λ t. Short (cond t k 0) a b e) is s

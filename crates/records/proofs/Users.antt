@@ -1,5 +1,5 @@
 -- The fields of a user.
-use Rattle.std.proofs.Common.{◌≡◌, ℕ, ◌+◌, ◌*◌, ◌≤◌, Bool, true, false, cond, not, eqb, ◌++◌, length, sym, refl, ◌∙◌, append_assoc, arith}
+use Rattle.std.proofs.Common.{◌≡◌, ℕ, ◌+◌, ◌*◌, ◌≤◌, Bool, true, false, cond, not, eqb, ◌++◌, length, sym, refl, ap, ◌∙◌, subst, append_assoc, arith}
 use lib.Bits.{and_high}
 use Rattle.byte_cursor.specs.declared.cursors.Cursor.{Cursor}
 use Rattle.records.specs.declared.forms.UserRecord.{UserRecord}
@@ -48,8 +48,11 @@ flags bits u m =
 
 module _ (bits n : ℕ) {a₀ a₁ a₂ a₃ a₄ : Cursor} {g al fl tp : ℕ}
     (f₁ : Field 2 (has bits 2) a₀ a₁ g) (f₂ : Field 8 (has bits 4) a₁ a₂ al) (f₃ : Field 8 (has bits 8) a₂ a₃ fl) (f₄ : Field 8 (has bits 16) a₃ a₄ tp) where
+  abbrev pub read_as : Bool → UserRecord
+  read_as admin = record { number = n; admin = admin; groups = g; allow = al; floor = fl; top = tp }
+
   abbrev pub read : UserRecord
-  read = record { number = n; admin = has bits 1; groups = g; allow = al; floor = fl; top = tp }
+  read = read_as (has bits 1)
 
   pub user_taken : users.map read ≡ bits → Taken users bits n a₀ a₄ read
   user_taken m =
@@ -74,9 +77,13 @@ module _ (bits n : ℕ) {a₀ a₁ a₂ a₃ a₄ : Cursor} {g al fl tp : ℕ}
       let s₄ = step f₄ x.top _ t.top h.3 s₃.1 in
       other ((λ i. cond (t.admin i) 1 0 + bit_of 2 (s₁.0 i) + bit_of 4 (s₂.0 i) + bit_of 8 (s₃.0 i) + bit_of 16 (s₄.0 i)) ∙ m)
 
-  -- by the map that was found
-  pub user_read : {m : ℕ} → m ≡ users.map read → m ≡ bits → Taken users bits n a₀ a₄ read
-  user_read e b = user_taken (sym e ∙ b)
+  -- by the bit and the map that were found
+  module _ {admin : Bool} (is : admin ≡ has bits 1) {m : ℕ} (e : m ≡ users.map (read_as admin)) where
+    same_map : m ≡ users.map read
+    same_map = e ∙ ap (λ b. users.map (read_as b)) is
 
-  pub user_unlike : (q : ℕ) → q ≡ a₄.first → {m : ℕ} → m ≡ users.map read → (m ≡ bits → ⊥) → Failed users bits n a₀ (Form q)
-  user_unlike q e m ne = (e ∙ f₄.first ∙ f₃.first ∙ f₂.first ∙ f₁.first, user_there, user_none (λ b. ne (m ∙ b)))
+    pub user_read : m ≡ bits → Taken users bits n a₀ a₄ (read_as admin)
+    user_read b = subst (λ t. Taken users bits n a₀ a₄ (read_as t)) (sym is) (user_taken (sym same_map ∙ b))
+
+    pub user_unlike : (q : ℕ) → q ≡ a₄.first → (m ≡ bits → ⊥) → Failed users bits n a₀ (Form q)
+    user_unlike q f ne = (f ∙ f₄.first ∙ f₃.first ∙ f₂.first ∙ f₁.first, user_there, user_none (λ b. ne (same_map ∙ b)))

@@ -39,6 +39,15 @@ pub enum Record {
     Object(ObjectRecord),
 }
 
+/// The numbers of the kinds in a record's head.
+impl Record {
+    pub const USER: u8 = 1;
+
+    pub const GROUP: u8 = 2;
+
+    pub const OBJECT: u8 = 3;
+}
+
 /// The bytes failed, or the record that begins at the place did.
 #[derive(Clone, Copy, Debug, PartialEq)]
 pub enum RecordFault {

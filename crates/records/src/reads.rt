@@ -1,107 +1,174 @@
 //! Reads a record.
-ghost use Rattle.std.specs.Prelude.{◌≡◌, ◌<◌, ◌≤◌, if◌then◌else◌, MatchResult};
-ghost use Rattle.byte_cursor.specs.Bytes.{left, Took};
-ghost use Rattle.records.specs.Records.{groups, users, objects, Taken, Failed, InForm, encode, Faulty};
+ghost use Rattle.std.specs.Prelude.{◌≡◌, if◌then◌else◌, MatchResult};
+ghost use Rattle.byte_cursor.specs.Bytes.{left, Took, Short, Field};
+ghost use Rattle.records.specs.Records.{has, groups, users, objects, Taken, Failed, InForm, encode, Faulty};
 
 use crate::forms::{GroupRecord, ObjectRecord, Record, RecordFault, UserRecord};
-use crate::rights::{marks_of, read_rights, rights_part};
-use byte_cursor::Cursor;
+use crate::rights::{ALL_RIGHTS, marks_of, read_rights, rights_part};
+use byte_cursor::{Cursor, CursorFault, Little};
+
+/// The head of a record, but for its kind: the map of its fields, and its number.
+#[derive(Clone, Copy)]
+struct Head {
+    map: u8,
+    number: u8,
+}
+
+impl Head {
+    /// A bit stands in the map.
+    fn has(self, bit: u8) -> bool
+        ensures { result ≡ has self.map bit }
+    {
+        self.map & bit != 0
+    }
+
+    /// The field of a bit, 0 where the bit does not stand in the map.
+    fn field<T: Little<N>, const N: usize>(self, bit: u8, c: &mut Cursor) -> Result<T, CursorFault>
+        ensures { MatchResult result (λ v. Field N (has self.map bit) c.old c.new (T.value v)) (Short (if has self.map bit then N else 0) c.old c.new) }
+    {
+        c.field(self.has(bit))
+    }
+}
+
+/// How many groups there are, how many maps, and the bit of the role in a map.
+impl GroupRecord {
+    const ROOM: u8 = 16;
+
+    const MAPS: u8 = 2;
+
+    const ROLE: u8 = 1;
+}
 
 /// The map of a group's fields that are not zero.
 pub fn group_map(g: &GroupRecord) -> u8
     ensures { result ≡ groups.map g.now }
 {
-    if g.role != 0 { 1 } else { 0 }
+    GroupRecord::ROLE * u8::from(g.role != 0)
 }
 
 /// The fields of a group.
-fn group(c: &mut Cursor, bits: u8, number: u8) -> Result<GroupRecord, RecordFault>
-    ensures { MatchResult result (Taken groups bits number c.old c.new) (Failed groups bits number c.old) }
+fn group(c: &mut Cursor, head: Head) -> Result<GroupRecord, RecordFault>
+    ensures { MatchResult result (Taken groups head.map head.number c.old c.new) (Failed groups head.map head.number c.old) }
 {
-    let role = c.byte_if(bits & 1 != 0)?;
-    let g = GroupRecord { number, role };
-    if group_map(&g) != bits || role >= 128 {
+    let role = head.field(GroupRecord::ROLE, c)?;
+    let g = GroupRecord {
+        number: head.number,
+        role,
+    };
+    if group_map(&g) != head.map || role > ALL_RIGHTS {
         return Err(RecordFault::Form(c.first()));
     }
     Ok(g)
 }
 
-/// A bit of a map.
-fn bit(weight: u8, there: bool) -> u8
-    ensures value { result ≡ (if there then weight else 0) }
-    ensures bound { result ≤ weight }
-{
-    if there { weight } else { 0 }
+/// How many users there are, how many maps, and the bits of the fields in a map.
+impl UserRecord {
+    const ROOM: u8 = 16;
+
+    const MAPS: u8 = 32;
+
+    const ADMIN: u8 = 1;
+
+    const GROUPS: u8 = 2;
+
+    const ALLOW: u8 = 4;
+
+    const FLOOR: u8 = 8;
+
+    const TOP: u8 = 16;
 }
 
 /// The map of a user's fields that are not zero.
 pub fn user_map(u: &UserRecord) -> u8
     ensures { result ≡ users.map u.now }
 {
-    bit(1, u.admin)
-        + bit(2, u.groups != 0)
-        + bit(4, u.allow != 0)
-        + bit(8, u.floor != 0)
-        + bit(16, u.top != 0)
+    UserRecord::ADMIN * u8::from(u.admin)
+        + UserRecord::GROUPS * u8::from(u.groups != 0)
+        + UserRecord::ALLOW * u8::from(u.allow != 0)
+        + UserRecord::FLOOR * u8::from(u.floor != 0)
+        + UserRecord::TOP * u8::from(u.top != 0)
 }
 
 /// The fields of a user.
-fn user(c: &mut Cursor, bits: u8, number: u8) -> Result<UserRecord, RecordFault>
-    ensures { MatchResult result (Taken users bits number c.old c.new) (Failed users bits number c.old) }
+fn user(c: &mut Cursor, head: Head) -> Result<UserRecord, RecordFault>
+    ensures { MatchResult result (Taken users head.map head.number c.old c.new) (Failed users head.map head.number c.old) }
 {
-    let groups = c.u16_if(bits & 2 != 0)?;
-    let allow = c.u64_if(bits & 4 != 0)?;
-    let floor = c.u64_if(bits & 8 != 0)?;
-    let top = c.u64_if(bits & 16 != 0)?;
+    let groups = head.field(UserRecord::GROUPS, c)?;
+    let allow = head.field(UserRecord::ALLOW, c)?;
+    let floor = head.field(UserRecord::FLOOR, c)?;
+    let top = head.field(UserRecord::TOP, c)?;
     let u = UserRecord {
-        number,
-        admin: bits & 1 != 0,
+        number: head.number,
+        admin: head.has(UserRecord::ADMIN),
         groups,
         allow,
         floor,
         top,
     };
-    if user_map(&u) != bits {
+    if user_map(&u) != head.map {
         return Err(RecordFault::Form(c.first()));
     }
     Ok(u)
+}
+
+/// How many objects there are, how many maps, the bits of the fields in a map, and the last kind.
+impl ObjectRecord {
+    const ROOM: u8 = 64;
+
+    const MAPS: u8 = 128;
+
+    const PARENT: u8 = 1;
+
+    const KIND: u8 = 2;
+
+    const OWNER: u8 = 4;
+
+    const LABEL: u8 = 8;
+
+    const MIXED: u8 = 16;
+
+    const GROUPS: u8 = 32;
+
+    const RIGHTS: u8 = 64;
+
+    const LAST_KIND: u8 = 2;
 }
 
 /// The map of an object's fields that are not zero.
 pub fn object_map(o: &ObjectRecord) -> u8
     ensures { result ≡ objects.map o.now }
 {
-    let low = bit(1, o.parent != 0)
-        + bit(2, o.kind != 0)
-        + bit(4, o.owner != 0)
-        + bit(8, o.label != 0);
-    low + bit(16, o.mixed) + bit(32, o.groups != 0) + bit(64, marks_of(&o.rights) != 0)
+    ObjectRecord::PARENT * u8::from(o.parent != 0)
+        + ObjectRecord::KIND * u8::from(o.kind != 0)
+        + ObjectRecord::OWNER * u8::from(o.owner != 0)
+        + ObjectRecord::LABEL * u8::from(o.label != 0)
+        + ObjectRecord::MIXED * u8::from(o.mixed)
+        + ObjectRecord::GROUPS * u8::from(o.groups != 0)
+        + ObjectRecord::RIGHTS * u8::from(marks_of(&o.rights) != 0)
 }
 
 /// The fields of an object.
-fn object(c: &mut Cursor, bits: u8, number: u8) -> Result<ObjectRecord, RecordFault>
-    ensures { MatchResult result (Taken objects bits number c.old c.new) (Failed objects bits number c.old) }
+fn object(c: &mut Cursor, head: Head) -> Result<ObjectRecord, RecordFault>
+    ensures { MatchResult result (Taken objects head.map head.number c.old c.new) (Failed objects head.map head.number c.old) }
 {
-    let parent = c.byte_if(bits & 1 != 0)?;
-    let kind = c.byte_if(bits & 2 != 0)?;
-    let owner = c.byte_if(bits & 4 != 0)?;
-    let label = c.u64_if(bits & 8 != 0)?;
-    let groups = c.u16_if(bits & 32 != 0)?;
-    let part = rights_part(c, bits & 64 != 0)?;
-    let Some(rights) = read_rights(part) else {
-        return Err(RecordFault::Form(c.first()));
-    };
+    let parent = head.field(ObjectRecord::PARENT, c)?;
+    let kind = head.field(ObjectRecord::KIND, c)?;
+    let owner = head.field(ObjectRecord::OWNER, c)?;
+    let label = head.field(ObjectRecord::LABEL, c)?;
+    let groups = head.field(ObjectRecord::GROUPS, c)?;
+    let part = rights_part(c, head.has(ObjectRecord::RIGHTS))?;
+    let rights = read_rights(part).ok_or(RecordFault::Form(c.first()))?;
     let o = ObjectRecord {
-        number,
+        number: head.number,
         parent,
         kind,
         owner,
         label,
-        mixed: bits & 16 != 0,
+        mixed: head.has(ObjectRecord::MIXED),
         groups,
         rights,
     };
-    if object_map(&o) != bits || kind > 2 {
+    if object_map(&o) != head.map || kind > ObjectRecord::LAST_KIND {
         return Err(RecordFault::Form(c.first()));
     }
     Ok(o)
@@ -112,13 +179,21 @@ pub fn read_record(c: &mut Cursor) -> Result<Record, RecordFault>
     ensures { MatchResult result (λ x. InForm x × Took c.old c.new (encode x)) (Faulty c.old.place (left c.old)) }
 {
     c.begin();
-    let head = c.part(3)?;
-    let bits = head[0];
-    let number = head[2];
-    match head[1] {
-        1 if number < 16 && bits < 32 => Ok(Record::User(user(c, bits, number)?)),
-        2 if number < 16 && bits < 2 => Ok(Record::Group(group(c, bits, number)?)),
-        3 if number < 64 && bits < 128 => Ok(Record::Object(object(c, bits, number)?)),
+    let [map, kind, number] = *c.array::<3>()?;
+    let head = Head { map, number };
+    match kind {
+        Record::USER if number < UserRecord::ROOM && map < UserRecord::MAPS => {
+            let u = user(c, head)?;
+            Ok(Record::User(u))
+        }
+        Record::GROUP if number < GroupRecord::ROOM && map < GroupRecord::MAPS => {
+            let g = group(c, head)?;
+            Ok(Record::Group(g))
+        }
+        Record::OBJECT if number < ObjectRecord::ROOM && map < ObjectRecord::MAPS => {
+            let o = object(c, head)?;
+            Ok(Record::Object(o))
+        }
         _ => Err(RecordFault::Form(c.first())),
     }
 }

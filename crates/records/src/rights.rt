@@ -6,61 +6,53 @@ ghost use Rattle.records.specs.Rights.{rights_size, Marked, marks_number, Rights
 use byte_cursor::{Cursor, CursorFault};
 
 /// All seven rights.
-const ALL_RIGHTS: u8 = 127;
+pub(crate) const ALL_RIGHTS: u8 = 127;
 
 /// A byte for each user in `marks`, and 0 for the others: `None` where the bytes are not those of such rights.
 fn spread(marks: u16, bytes: &[u8]) -> Option<[u8; 16]>
     ensures { MatchOption result ((rs : _) → Marked marks bytes.now rs → ⊥) (Marked marks bytes.now) }
 {
-    let mut rights = [0u8; 16];
+    let mut rights = [0; 16];
     let mut users = marks;
-    let mut next = 0;
-    for u in 0..16 {
+    let mut left = bytes;
+    for right in &mut rights {
         if users % 2 == 1 {
-            if next >= bytes.len() {
+            let (&byte, rest) = left.split_first()?;
+            if byte == 0 || byte > ALL_RIGHTS {
                 return None;
             }
-            let b = bytes[next];
-            if b == 0 || b > ALL_RIGHTS {
-                return None;
-            }
-            rights[u] = b;
-            next += 1;
+            *right = byte;
+            left = rest;
         }
         users /= 2;
     }
-    if next < bytes.len() {
-        return None;
-    }
-    Some(rights)
+    left.is_empty().then_some(rights)
 }
 
 /// The rights that a part of a record writes: an empty part writes none.
 pub fn read_rights(part: &[u8]) -> Option<[u8; 16]>
     ensures { MatchOption result ((rs : _) → RightsForm rs → part.now ≢ rights_body rs) (λ rs. RightsForm rs × (part.now ≡ rights_body rs)) }
 {
-    if part.len() == 0 {
+    if part.is_empty() {
         return Some([0; 16]);
     }
-    if part.len() < 2 {
-        return None;
-    }
-    let users = u16::from_le_bytes([part[0], part[1]]);
+    let (map, bytes) = part.split_first_chunk::<2>()?;
+    let users = u16::from_le_bytes(*map);
     if users == 0 {
         return None;
     }
-    spread(users, &part[2..])
+    spread(users, bytes)
 }
 
 /// The map of the users with rights.
 pub fn marks_of(rights: &[u8; 16]) -> u16
     ensures { result ≡ marks_number rights.now }
 {
-    let mut m: u16 = 0;
-    for u in (0..16).rev() {
-        m = 2 * m + if rights[u] != 0 { 1 } else { 0 };
+    let mut marks = 0;
+    for (user, right) in rights.iter().enumerate() {
+        marks += u16::from(*right != 0) << user;
     }
-    m
+    marks
 }
 
 /// The rights field as a part, where it is `there`: a map of users, and a byte for each user in it.
@@ -71,6 +63,6 @@ pub fn rights_part<'a>(c: &mut Cursor<'a>, there: bool) -> Result<&'a [u8], Curs
         return c.part(0);
     }
     let mut ahead = *c;
-    let users = ahead.u16()?;
+    let users: u16 = ahead.number()?;
     c.part(2 + users.count_ones() as usize)
 }

@@ -2,6 +2,7 @@
 use Rattle.std.proofs.Common.{◌≡◌, ℕ, zero, suc, ◌+◌, ◌<◌, ◌≤◌, ◌⊎◌, List, [], ◌∷◌, ◌++◌, map, length, get_or, set, replicate, Some, None, Option, sym, refl, ap, ◌∙◌, subst, ap₂, inl, inr, append_assoc, append-nil, arith, length-append}
 use lib.ListN.{length-replicate}
 use Rattle.std.specs.List.{AllByRecursion}
+use Rattle.tables.specs.Kinds.{kind_of, number_of_kind}
 use Rattle.tables.specs.State.{blank}
 use Rattle.tables.specs.declared.sets.Rights.{Rights}
 use Rattle.tables.specs.declared.types.Kind.{Kind}
@@ -13,7 +14,7 @@ use Rattle.records.specs.declared.forms.ObjectRecord.{ObjectRecord}
 use Rattle.records.specs.declared.forms.Record.{Record}
 use Rattle.records.specs.declared.forms.Record.TheVariants as record_of
 use Rattle.records.specs.Records.{InForm}
-use Rattle.roll.specs.Slots.{kind_of, number_of_kind, rights_of, rights_byte, user_of, role_of, object_of, user_record, group_record, object_record, slots, records_of}
+use Rattle.roll.specs.Slots.{rights_of, rights_byte, user_of, role_of, object_of, user_record, group_record, object_record, slots, records_of}
 use Rattle.roll.specs.Rolls.{rank_of, Rising, Roll, put_in, tables_from}
 use Rattle.roll.specs.Formed.{Sized, Formed, alone}
 use Rattle.roll.proofs.Filling.{puts, length_puts, Ascend, Within, records_at, read_back}

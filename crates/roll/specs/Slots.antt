@@ -1,8 +1,7 @@
 -- What a record puts into its slot of the tables, and what a slot is written as. Assumes nothing.
-use Rattle.std.specs.Prelude.{ℕ, suc, cond, List, [], ◌∷◌, ◌++◌, map, Some, None, Option, ◌==◌}
+use Rattle.std.specs.Prelude.{ℕ, suc, List, [], ◌∷◌, ◌++◌, map, Some, None, Option}
 use Rattle.tables.specs.declared.sets.Rights.{Rights}
-use Rattle.tables.specs.declared.types.Kind.{Kind}
-use Rattle.tables.specs.declared.types.Kind.TheVariants.{Container, File, Program}
+use Rattle.tables.specs.Kinds.{kind_of, number_of_kind}
 use Rattle.tables.specs.declared.types.User.{User}
 use Rattle.tables.specs.declared.types.Object.{Object}
 use Rattle.tables.specs.declared.types.Tables.{Tables}
@@ -11,15 +10,6 @@ use Rattle.records.specs.declared.forms.GroupRecord.{GroupRecord}
 use Rattle.records.specs.declared.forms.ObjectRecord.{ObjectRecord}
 use Rattle.records.specs.declared.forms.Record.{Record}
 use Rattle.records.specs.declared.forms.Record.TheVariants as record_of
-
--- the kinds of objects by number
-abbrev pub kind_of : ℕ → Kind
-kind_of k = cond (k == 0) Container (cond (k == 1) File Program)
-
-abbrev pub number_of_kind : Kind → ℕ
-number_of_kind Container = 0
-number_of_kind File = 1
-number_of_kind Program = 2
 
 abbrev pub rights_of : ℕ → Rights
 rights_of b = record { 0 = b }

@@ -37,16 +37,16 @@ pub fn read_tables(bytes: &[u8]) -> Result<Tables, RecordFault>
 {
     let mut c = Cursor::new(bytes);
     let mut tables = Tables::blank();
-    let mut last = 0;
+    let mut last = None;
     while !c.at_end() {
         let first = c.place();
-        let r = read_record(&mut c)?;
-        let k = rank(&r);
-        if k <= last {
+        let record = read_record(&mut c)?;
+        let next = Some(rank(&record));
+        if next <= last {
             return Err(RecordFault::Order(first));
         }
-        last = k;
-        put(&mut tables, &r);
+        last = next;
+        put(&mut tables, &record);
     }
     Ok(tables)
 }

@@ -1,31 +1,19 @@
 //! Records as the tables have them.
 ghost use Rattle.std.specs.Prelude.{◌≡◌, map};
-ghost use Rattle.roll.specs.Slots.{kind_of, rights_of, user_of, role_of, object_of};
+ghost use Rattle.roll.specs.Slots.{rights_of, user_of, role_of, object_of};
 
 use records::{GroupRecord, ObjectRecord, UserRecord};
 use tables::sets::{GroupSet, ObjectSet, Rights};
 use tables::types::{Kind, Object, User};
 
-fn table_kind(k: u8) -> Kind
-    ensures { result ≡ kind_of k }
-{
-    match k {
-        0 => Kind::Container,
-        1 => Kind::File,
-        _ => Kind::Program,
-    }
-}
-
+/// The rights of the users.
 fn table_rights(bytes: &[u8; 16]) -> [Rights; 16]
     ensures { result ≡ map rights_of bytes.now }
 {
-    let mut rights = [Rights(0); 16];
-    for u in 0..16usize {
-        rights[u] = Rights(bytes[u]);
-    }
-    rights
+    bytes.map(Rights)
 }
 
+// Kept: `From` may not be written for these three, as the trait and both types are other crates'.
 /// The user that a record describes.
 pub(crate) fn table_user(u: &UserRecord) -> User
     ensures { result ≡ user_of u.now }
@@ -51,7 +39,7 @@ pub(crate) fn table_object(o: &ObjectRecord) -> Object
     ensures { result ≡ object_of o.now }
 {
     Object {
-        kind: table_kind(o.kind),
+        kind: Kind::try_from(o.kind).unwrap_or(Kind::Program),
         parent: o.parent,
         owner: o.owner,
         label: o.label,

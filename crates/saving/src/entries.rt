@@ -3,7 +3,8 @@ ghost use Rattle.std.specs.Prelude.{◌≡◌, ℕ, ◌≤◌, map, length};
 ghost use Rattle.records.specs.declared.forms.Record.{Record};
 ghost use Rattle.records.specs.declared.forms.Record.TheVariants as record_of;
 ghost use Rattle.records.specs.Records.{encode};
-ghost use Rattle.roll.specs.Slots.{number_of_kind, rights_byte, user_record, group_record, object_record};
+ghost use Rattle.tables.specs.Kinds.{number_of_kind};
+ghost use Rattle.roll.specs.Slots.{rights_byte, user_record, group_record, object_record};
 ghost use Rattle.saving.specs.Takes.{Took};
 
 use crate::fields::{put_byte, put_rights, put_u16, put_u64};

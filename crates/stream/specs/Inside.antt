@@ -1,5 +1,5 @@
 -- What the private functions of the reader promise: each call is read as some of five arguments, four bytes and then a label. Assumes nothing.
-use Rattle.std.specs.Prelude.{◌≡◌, ℕ, ◌+◌, ◌*◌, ◌/◌, ◌%◌, Bool, true, false, cond, List, [], ◌∷◌, get_or, ◌==◌, slice_index_or}
+use Rattle.std.specs.Prelude.{◌≡◌, ℕ, ◌+◌, ◌*◌, ◌/◌, ◌%◌, Bool, true, false, cond, List, [], ◌∷◌, ◌==◌, slice_index, slice_index_or}
 use Rattle.byte_cursor.specs.declared.cursors.Cursor.{Cursor}
 use Rattle.byte_cursor.specs.Bytes.{Took, Field}
 use Rattle.calls.specs.declared.types.Call.{Call}
@@ -42,20 +42,20 @@ spread_map (false ∷ ks) bits = 2 * spread_map ks bits
 -- the call with the number k whose arguments are among the five: one without a label, and any
 abbrev pub byte_call_of : ℕ → List ℕ → Call
 byte_call_of k ps =
-    let a = get_or ps 0 0 in
-    let b = get_or ps 1 0 in
-    let c = get_or ps 2 0 in
-    let d = get_or ps 3 0 in
+    let a = slice_index ps 0 in
+    let b = slice_index ps 1 in
+    let c = slice_index ps 2 in
+    let d = slice_index ps 3 in
     let z = Bar a b c in
     slice_index_or (z ∷ z ∷ z ∷ Leave a ∷ Read a b ∷ Write a b ∷ z ∷ Delete a b ∷ Move a b c ∷ z ∷ Mix a b ∷ Unmix a b ∷ Rights a b c d ∷ Allow a b c ∷ []) k z
 
 abbrev pub call_of : ℕ → List ℕ → Call
 call_of k ps =
-    let a = get_or ps 0 0 in
-    let b = get_or ps 1 0 in
-    let c = get_or ps 2 0 in
-    let d = get_or ps 3 0 in
-    let l = get_or ps 4 0 in
+    let a = slice_index ps 0 in
+    let b = slice_index ps 1 in
+    let c = slice_index ps 2 in
+    let d = slice_index ps 3 in
+    let l = slice_index ps 4 in
     cond (k == 1) (Enter a b l) (cond (k == 2) (Launch a b c l) (cond (k == 6) (Create a b c d l) (cond (k == 9) (Raise a b l) (byte_call_of k ps))))
 
 -- the arguments vs in the map were read one after another from a to b, those with a bit in the map; each other is 0

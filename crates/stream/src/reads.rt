@@ -20,6 +20,7 @@ struct Arguments {
     label: u64,
 }
 
+// Kept: the numbers stand here and in the calls' making alone, and an enum of them would be a third list of the same fourteen.
 /// The map with the label's bit at bit 4, behind those of four bytes: `None` where no call has the number, or a bit stands for no argument.
 fn full_map(number: u8, bits: u8) -> Option<u8>
     ensures { MatchOption result (Known number bits → ⊥) (λ m. Known number bits × (m ≡ spread_map (kept number) bits)) }
@@ -36,101 +37,103 @@ fn full_map(number: u8, bits: u8) -> Option<u8>
     }
 }
 
-/// The arguments in a full map.
-fn read_arguments(c: &mut Cursor, map: u8) -> Result<Arguments, CursorFault>
-    ensures { MatchResult result (λ p. Reads map five (listed p) c.old c.new) (λ e. (e.first ≡ c.old.first) × (length (left c.old) < size_of map five)) }
-{
-    let first = c.byte_if(map & 1 != 0)?;
-    let second = c.byte_if(map & 2 != 0)?;
-    let third = c.byte_if(map & 4 != 0)?;
-    let fourth = c.byte_if(map & 8 != 0)?;
-    let label = c.u64_if(map & 16 != 0)?;
-    Ok(Arguments {
-        first,
-        second,
-        third,
-        fourth,
-        label,
-    })
-}
-
-/// The full map of the arguments that are not zero.
-fn map_of(a: &Arguments) -> u8
-    ensures { result ≡ map_number (listed a.now) }
-{
-    u8::from(a.first != 0)
-        + 2 * u8::from(a.second != 0)
-        + 4 * u8::from(a.third != 0)
-        + 8 * u8::from(a.fourth != 0)
-        + 16 * u8::from(a.label != 0)
-}
-
-/// The call with a known number and its arguments, none of which is a label.
-fn byte_call(number: u8, a: &Arguments) -> Call
-    ensures { result ≡ byte_call_of number (listed a.now) }
-{
-    let (subject, object) = (a.first, a.second);
-    match number {
-        3 => Call::Leave { subject },
-        4 => Call::Read { subject, object },
-        5 => Call::Write { subject, object },
-        7 => Call::Delete { subject, object },
-        8 => Call::Move {
-            subject,
-            object,
-            parent: a.third,
-        },
-        10 => Call::Mix { subject, object },
-        11 => Call::Unmix { subject, object },
-        12 => Call::Rights {
-            subject,
-            object,
-            user: a.third,
-            mask: a.fourth,
-        },
-        13 => Call::Allow {
-            subject,
-            user: a.second,
-            program: a.third,
-        },
-        _ => Call::Bar {
-            subject,
-            user: a.second,
-            program: a.third,
-        },
+impl Arguments {
+    /// The arguments in a full map.
+    fn read(c: &mut Cursor, map: u8) -> Result<Arguments, CursorFault>
+        ensures { MatchResult result (λ p. Reads map five (listed p) c.old c.new) (λ e. (e.first ≡ c.old.first) × (length (left c.old) < size_of map five)) }
+    {
+        let first = c.field(map & 1 != 0)?;
+        let second = c.field(map & 2 != 0)?;
+        let third = c.field(map & 4 != 0)?;
+        let fourth = c.field(map & 8 != 0)?;
+        let label = c.field(map & 16 != 0)?;
+        Ok(Arguments {
+            first,
+            second,
+            third,
+            fourth,
+            label,
+        })
     }
-}
 
-/// The call with a known number and its arguments.
-fn call_of(number: u8, a: &Arguments) -> Call
-    ensures { result ≡ call_of number (listed a.now) }
-{
-    let label = a.label;
-    match number {
-        1 => Call::Enter {
-            user: a.first,
-            number: a.second,
-            label,
-        },
-        2 => Call::Launch {
-            subject: a.first,
-            program: a.second,
-            number: a.third,
-            label,
-        },
-        6 => Call::Create {
-            subject: a.first,
-            parent: a.second,
-            number: a.third,
-            kind: a.fourth,
-            label,
-        },
-        9 => Call::Raise {
-            subject: a.first,
-            object: a.second,
-            label,
-        },
-        _ => byte_call(number, a),
+    /// The full map of the arguments that are not zero.
+    fn map(&self) -> u8
+        ensures { result ≡ map_number (listed self.now) }
+    {
+        u8::from(self.first != 0)
+            + 2 * u8::from(self.second != 0)
+            + 4 * u8::from(self.third != 0)
+            + 8 * u8::from(self.fourth != 0)
+            + 16 * u8::from(self.label != 0)
+    }
+
+    /// The call with a known number and these arguments, none of which is a label.
+    fn byte_call(&self, number: u8) -> Call
+        ensures { result ≡ byte_call_of number (listed self.now) }
+    {
+        let (subject, object) = (self.first, self.second);
+        match number {
+            3 => Call::Leave { subject },
+            4 => Call::Read { subject, object },
+            5 => Call::Write { subject, object },
+            7 => Call::Delete { subject, object },
+            8 => Call::Move {
+                subject,
+                object,
+                parent: self.third,
+            },
+            10 => Call::Mix { subject, object },
+            11 => Call::Unmix { subject, object },
+            12 => Call::Rights {
+                subject,
+                object,
+                user: self.third,
+                mask: self.fourth,
+            },
+            13 => Call::Allow {
+                subject,
+                user: self.second,
+                program: self.third,
+            },
+            _ => Call::Bar {
+                subject,
+                user: self.second,
+                program: self.third,
+            },
+        }
+    }
+
+    /// The call with a known number and these arguments.
+    fn call(&self, number: u8) -> Call
+        ensures { result ≡ call_of number (listed self.now) }
+    {
+        let label = self.label;
+        match number {
+            1 => Call::Enter {
+                user: self.first,
+                number: self.second,
+                label,
+            },
+            2 => Call::Launch {
+                subject: self.first,
+                program: self.second,
+                number: self.third,
+                label,
+            },
+            6 => Call::Create {
+                subject: self.first,
+                parent: self.second,
+                number: self.third,
+                kind: self.fourth,
+                label,
+            },
+            9 => Call::Raise {
+                subject: self.first,
+                object: self.second,
+                label,
+            },
+            _ => self.byte_call(number),
+        }
     }
 }
 
@@ -139,16 +142,13 @@ fn read_call(c: &mut Cursor) -> Result<Call, CallFault>
     ensures { MatchResult result (λ x. InForm x × Took c.old c.new (encode x)) (Faulty c.old.place (left c.old)) }
 {
     c.begin();
-    let head = c.part(2)?;
-    let number = head[1];
-    let Some(map) = full_map(number, head[0]) else {
-        return Err(CallFault::Form(c.first()));
-    };
-    let a = read_arguments(c, map)?;
-    if map_of(&a) != map {
+    let [bits, number] = *c.array::<2>()?;
+    let map = full_map(number, bits).ok_or(CallFault::Form(c.first()))?;
+    let a = Arguments::read(c, map)?;
+    if a.map() != map {
         return Err(CallFault::Form(c.first()));
     }
-    Ok(call_of(number, &a))
+    Ok(a.call(number))
 }
 
 /// The next call, or `None` at the end of the bytes. A call that was written is read back.

@@ -3,6 +3,7 @@ ghost use Rattle.std.specs.Prelude.{◌≡◌, [], length, if◌then◌else◌, 
 ghost use Rattle.byte_cursor.specs.Bytes.{left, Took, Short, Number, Field};
 
 use super::{Cursor, CursorFault};
+use crate::little::Little;
 
 impl<'a> Cursor<'a> {
     /// At the first of the bytes.
@@ -30,80 +31,66 @@ impl<'a> Cursor<'a> {
     pub fn first(&self) -> usize
         ensures { result ≡ self.now.first }
     {
-        let Cursor { first, .. } = *self;
-        first
+        self.first
     }
 
     /// Where reading goes on.
     pub fn place(&self) -> usize
         ensures { result ≡ self.now.place }
     {
-        let Cursor { place, .. } = *self;
-        place
+        self.place
     }
 
     /// Nothing is left.
     pub fn at_end(&self) -> bool
         ensures { result ≡ (length (left self.now) == 0) }
     {
-        self.place == self.bytes.len()
+        self.left().is_empty()
     }
 
     /// The next `n` bytes.
     pub fn part(&mut self, n: usize) -> Result<&'a [u8], CursorFault>
         ensures { MatchResult result (λ p. Took self.old self.new p.now × (length p.now ≡ n) × (self.new.first ≡ self.old.first)) (λ e. Short n self.old self.new e) }
     {
-        if self.bytes.len() - self.place < n {
-            return Err(CursorFault { first: self.first });
-        }
-        let from = self.place;
-        let bytes = self.bytes;
-        self.place = from + n;
-        Ok(&bytes[from..from + n])
+        let (front, _) = self.left().split_at_checked(n).ok_or(self.fault())?;
+        self.place += n;
+        Ok(front)
     }
 
-    /// The next byte.
-    pub fn byte(&mut self) -> Result<u8, CursorFault>
-        ensures { MatchResult result (Number 1 self.old self.new) (Short 1 self.old self.new) }
+    /// The next `N` bytes.
+    pub fn array<const N: usize>(&mut self) -> Result<&'a [u8; N], CursorFault>
+        ensures { MatchResult result (λ p. Took self.old self.new p.now × (length p.now ≡ N) × (self.new.first ≡ self.old.first)) (λ e. Short N self.old self.new e) }
     {
-        let p = self.part(1)?;
-        Ok(p[0])
+        let (front, _) = self.left().split_first_chunk().ok_or(self.fault())?;
+        self.place += N;
+        Ok(front)
     }
 
-    /// The number in the next two bytes.
-    pub fn u16(&mut self) -> Result<u16, CursorFault>
-        ensures { MatchResult result (Number 2 self.old self.new) (Short 2 self.old self.new) }
+    /// The number in the next bytes.
+    pub fn number<T: Little<N>, const N: usize>(&mut self) -> Result<T, CursorFault>
+        ensures { MatchResult result (λ v. Number N self.old self.new (T.value v)) (Short N self.old self.new) }
     {
-        let p = self.part(2)?;
-        Ok(u16::from_le_bytes([p[0], p[1]]))
+        Ok(T::from_bytes(self.array::<N>()?))
     }
 
-    /// The number in the next eight bytes.
-    pub fn u64(&mut self) -> Result<u64, CursorFault>
-        ensures { MatchResult result (Number 8 self.old self.new) (Short 8 self.old self.new) }
+    /// The number of a field that is `there`, else 0.
+    pub fn field<T: Little<N>, const N: usize>(&mut self, there: bool) -> Result<T, CursorFault>
+        ensures { MatchResult result (λ v. Field N there self.old self.new (T.value v)) (Short (if there then N else 0) self.old self.new) }
     {
-        let p = self.part(8)?;
-        Ok(u64::from_le_bytes([p[0], p[1], p[2], p[3], p[4], p[5], p[6], p[7]]))
+        if there { self.number() } else { Ok(T::ZERO) }
     }
 
-    /// The byte of a field that is `there`, else 0.
-    pub fn byte_if(&mut self, there: bool) -> Result<u8, CursorFault>
-        ensures { MatchResult result (Field 1 there self.old self.new) (Short (if there then 1 else 0) self.old self.new) }
+    /// The bytes that are yet to be read.
+    fn left(&self) -> &'a [u8]
+        ensures { result.now ≡ left self.now }
     {
-        if there { self.byte() } else { Ok(0) }
+        &self.bytes[self.place..]
     }
 
-    /// The two bytes of a field that is `there`, else 0.
-    pub fn u16_if(&mut self, there: bool) -> Result<u16, CursorFault>
-        ensures { MatchResult result (Field 2 there self.old self.new) (Short (if there then 2 else 0) self.old self.new) }
+    /// The bytes ended inside this record.
+    fn fault(&self) -> CursorFault
+        ensures { result.first ≡ self.now.first }
     {
-        if there { self.u16() } else { Ok(0) }
-    }
-
-    /// The eight bytes of a field that is `there`, else 0.
-    pub fn u64_if(&mut self, there: bool) -> Result<u64, CursorFault>
-        ensures { MatchResult result (Field 8 there self.old self.new) (Short (if there then 8 else 0) self.old self.new) }
-    {
-        if there { self.u64() } else { Ok(0) }
+        CursorFault { first: self.first }
     }
 }

@@ -1,39 +1,29 @@
-use Rattle.records.proofs.Breaks.{object_parent, object_kind, object_owner, object_label, object_groups, object_rights}
-use Rattle.records.proofs.Objects.{object_unwritten, object_unlike, object_read}
+use Rattle.std.proofs.Common.{◌≡◌}
+use Rattle.std.proofs.lemmas.Result.{err_from_is_err_and}
+use Rattle.records.specs.declared.forms.RecordFault.TheVariants.{Form}
+use Rattle.records.proofs.Breaks.{object_rights}
+use Rattle.records.proofs.Objects.{object_unwritten, object_unlike, object_read, part_long, part_short}
 use Rattle.records.proofs.reads.object.Goals as goal
-
-pub returns-in_err-parent : goal.returns-in_err-parent
-returns-in_err-parent c =
-    object_parent c.args.bits c.args.number c.from_residual.result _ c.in_err-parent.field-0.0 c.from_residual.ensures.1 c.in_err-parent.ensures
-
-pub returns-in_err-kind : goal.returns-in_err-kind
-returns-in_err-kind c =
-    object_kind c.args.bits c.args.number c.from_residual-in_err-kind.result _ c.in_err-kind.field-0.0 c.from_residual-in_err-kind.ensures.1 c.in_ok-parent.ensures c.in_err-kind.ensures
-
-pub returns-in_err-owner : goal.returns-in_err-owner
-returns-in_err-owner c =
-    object_owner c.args.bits c.args.number c.from_residual-in_err-owner.result _ c.in_err-owner.field-0.0 c.from_residual-in_err-owner.ensures.1 c.in_ok-parent.ensures c.in_ok-kind.ensures c.in_err-owner.ensures
-
-pub returns-in_err-label : goal.returns-in_err-label
-returns-in_err-label c =
-    object_label c.args.bits c.args.number c.from_residual-in_err-label.result _ c.in_err-label.field-0.0 c.from_residual-in_err-label.ensures.1 c.in_ok-parent.ensures c.in_ok-kind.ensures c.in_ok-owner.ensures c.in_err-label.ensures
-
-pub returns-in_err-groups : goal.returns-in_err-groups
-returns-in_err-groups c =
-    object_groups c.args.bits c.args.number c.from_residual-in_err-groups.result _ c.in_err-groups.field-0.0 c.from_residual-in_err-groups.ensures.1 c.in_ok-parent.ensures c.in_ok-kind.ensures c.in_ok-owner.ensures c.in_ok-label.ensures c.in_err-groups.ensures
 
 pub returns-in_err-part : goal.returns-in_err-part
 returns-in_err-part c =
-    object_rights c.args.bits c.args.number c.from_residual-in_err-part.result _ c.in_err-part.field-0.0 c.from_residual-in_err-part.ensures.1 c.in_ok-parent.ensures c.in_ok-kind.ensures c.in_ok-owner.ensures c.in_ok-label.ensures c.in_ok-groups.ensures c.in_err-part.ensures
+    object_rights c.args.head.map c.args.head.number c.from_residual-in_err-part.result _ c.in_err-part.field-0.0 c.from_residual-in_err-part.ensures.1 c.in_ok-parent.ensures c.in_ok-kind.ensures c.in_ok-owner.ensures c.in_ok-label.ensures c.in_ok-groups.ensures (part_short _ c.has.ensures c.in_err-part.ensures)
 
-pub returns-in_default : goal.returns-in_default
-returns-in_default c =
-    object_unwritten c.args.bits c.args.number c.in_ok-parent.ensures c.in_ok-kind.ensures c.in_ok-owner.ensures c.in_ok-label.ensures c.in_ok-groups.ensures c.in_ok-part.ensures.0 c.in_ok-part.ensures.1 c.first.result c.first.ensures c.in_ok-part.ensures.2 c.in_default.ensures
+pub returns-in_err-rights : goal.returns-in_err-rights
+returns-in_err-rights c =
+    let p = err_from_is_err_and c.from_residual-in_err-rights.result c.from_residual-in_err-rights.ensures.1 in
+    let unread = rw c.in_err-rights.ensures.ok_part at c.read_rights.ensures in
+    let told = rw c.in_err-rights.ensures.ok_part at c.in_err-rights.ensures.value in
+    let v : c.in_err-rights.field-0.0 ≡ Form c.first.result = cc told in
+    rw (p.1, p.2, v)
+    (object_unwritten c.args.head.map c.args.head.number c.in_ok-parent.ensures c.in_ok-kind.ensures c.in_ok-owner.ensures c.in_ok-label.ensures c.in_ok-groups.ensures c.in_ok-part.ensures.0 (part_long _ c.has.ensures c.in_ok-part.ensures.1) c.first.result c.first.ensures c.in_ok-part.ensures.2 unread)
 
-pub returns-then-object_map-bits : goal.returns-then-object_map-bits
-returns-then-object_map-bits c =
-    object_unlike c.args.bits c.args.number c.in_ok-parent.ensures c.in_ok-kind.ensures c.in_ok-owner.ensures c.in_ok-label.ensures c.in_ok-groups.ensures c.in_ok-part.ensures.0 c.in_ok-part.ensures.1 c.in-Some.rights c.in-Some.ensures.0 c.in-Some.ensures.1 c.first-then-object_map-bits.result c.first-then-object_map-bits.ensures c.in_ok-part.ensures.2 c.object_map.ensures c.then-object_map-bits.either
+pub returns-then-object_map-head : goal.returns-then-object_map-head
+returns-then-object_map-head c =
+    let read = rw c.in_ok-rights.ensures.ok_part at c.read_rights.ensures in
+    object_unlike c.args.head.map c.args.head.number c.in_ok-parent.ensures c.in_ok-kind.ensures c.in_ok-owner.ensures c.in_ok-label.ensures c.in_ok-groups.ensures c.in_ok-part.ensures.0 (part_long _ c.has.ensures c.in_ok-part.ensures.1) c.in_ok-rights.rights read.0 read.1 c.has-2.ensures c.object_map.ensures c.first-then-object_map-head.result c.first-then-object_map-head.ensures c.in_ok-part.ensures.2 c.then-object_map-head.either
 
 pub returns : goal.returns
 returns c =
-    object_read c.args.bits c.args.number c.in_ok-parent.ensures c.in_ok-kind.ensures c.in_ok-owner.ensures c.in_ok-label.ensures c.in_ok-groups.ensures c.in_ok-part.ensures.0 c.in_ok-part.ensures.1 c.in-Some.rights c.in-Some.ensures.0 c.in-Some.ensures.1 c.object_map.ensures c.if-object_map-bits.false c.if-kind-gt2.false
+    let read = rw c.in_ok-rights.ensures.ok_part at c.read_rights.ensures in
+    object_read c.args.head.map c.args.head.number c.in_ok-parent.ensures c.in_ok-kind.ensures c.in_ok-owner.ensures c.in_ok-label.ensures c.in_ok-groups.ensures c.in_ok-part.ensures.0 (part_long _ c.has.ensures c.in_ok-part.ensures.1) c.in_ok-rights.rights read.0 read.1 c.has-2.ensures c.object_map.ensures c.if-object_map-head.false c.if-kind-gt-LAST_KIND.false

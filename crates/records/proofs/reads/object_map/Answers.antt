@@ -2,5 +2,4 @@ use Rattle.records.proofs.Maps.{object_map}
 use Rattle.records.proofs.reads.object_map.Goals as goal
 
 pub returns : goal.returns
-returns c =
-    object_map c.args.o.now c.marks_of.ensures c.bit.ensures.value c.bit-2.ensures.value c.bit-3.ensures.value c.bit-4.ensures.value c.bit-5.ensures.value c.bit-6.ensures.value c.bit-7.ensures.value
+returns c = object_map c.args.o.now c.marks_of.ensures c.from.ensures c.from-2.ensures c.from-3.ensures c.from-4.ensures c.from-5.ensures c.from-6.ensures c.from-7.ensures

@@ -1,26 +1,30 @@
 use Rattle.std.proofs.Common.{refl, inl, inr, ⊎_elim, arith}
-use Rattle.records.proofs.Spread.{start, turn_skip, turn_mark, turn_done, turn_over, zeros_at, bad}
+use Rattle.std.proofs.lemmas.List.{nil_from_length, set-get_or}
+use Rattle.records.proofs.Spread.{start, turn_skip, turn_mark, turn_end, zeros_at, none, bad}
 use Rattle.records.proofs.rights.spread.Goals as goal
-use Rattle.records.proofs.rights.spread.Goals.{then-users-eq1+else-next-bytes+else-b-eq0+else-b-gt-ALL_RIGHTS, else-users-eq1}
+use Rattle.records.proofs.rights.spread.Goals.{then-users-eq1+in_ok-byte+else-byte-eq0+else-byte-gt-ALL_RIGHTS, else-users-eq1}
 
-pub loop-u-init : goal.loop-u-init
-loop-u-init c = record { half = start c.args.marks c.args.bytes.now (omega arith); whole = refl; zeros = λ k h. zeros_at 16 k }
+pub loop-right-init : goal.loop-right-init
+loop-right-init c = record { half = start c.args.marks c.args.bytes.now (omega arith); whole = refl; zeros = λ k h. zeros_at 16 k }
 
-pub returns-then-next-bytes : goal.returns-then-next-bytes
-returns-then-next-bytes c = bad c.loop-u.invariant.half (omega arith) c.if-users-eq1.true (λ l. absurd (omega arith))
+pub returns-in_err-byte : goal.returns-in_err-byte
+returns-in_err-byte c =
+    simp c.from_residual.ensures (none c.loop-right.invariant.half c.loop-right-test.true c.if-users-eq1.true (nil_from_length c.loop-right.left.now c.in_err-byte.ensures.cases))
 
-pub returns-then-b-eq0 : goal.returns-then-b-eq0
-returns-then-b-eq0 c = bad c.loop-u.invariant.half (omega arith) c.if-users-eq1.true (λ l. ⊎_elim (λ e. inl e) (λ e. inr (omega (arith, e.1))) c.then-b-eq0.either)
+pub returns-then-byte-eq0 : goal.returns-then-byte-eq0
+returns-then-byte-eq0 c =
+    bad c.loop-right.invariant.half c.loop-right-test.true c.if-users-eq1.true _ c.in_ok-byte.rest.now c.in_ok-byte.ensures.cases.0
+    (⊎_elim (λ e. inl e) (λ e. inr (omega (arith, e.1))) c.then-byte-eq0.either)
 
-pub loop-u-preserved : goal.loop-u-preserved
-loop-u-preserved c =
+pub loop-right-preserved : goal.loop-right-preserved
+loop-right-preserved c =
+    let t = c.loop-right.invariant in
     elim c.if-users-eq1.branch [
-      | then-users-eq1+else-next-bytes+else-b-eq0+else-b-gt-ALL_RIGHTS w ↦ simp (w.next-is, w.rights-is) (turn_mark c.loop-u.invariant (omega arith) w.if-users-eq1.true w.if-next-bytes.false _ refl w.if-b-eq0.false (omega arith))
-      | else-users-eq1 w ↦ simp (w.next-is, w.rights-is) (turn_skip c.loop-u.invariant (omega arith) (omega (arith, w.if-users-eq1.false)))
+      | then-users-eq1+in_ok-byte+else-byte-eq0+else-byte-gt-ALL_RIGHTS w ↦
+          simp (w.left-is, w.right-items-is)
+          (turn_mark t c.loop-right-test.true w.if-users-eq1.true _ w.in_ok-byte.rest.now w.in_ok-byte.ensures.cases.0 w.if-byte-eq0.false (omega (arith, w.if-byte-gt-ALL_RIGHTS.false)))
+      | else-users-eq1 w ↦ simp (w.left-is, w.right-items-is, set-get_or) (turn_skip t c.loop-right-test.true (omega (arith, w.if-users-eq1.false)))
     ]
 
-pub returns-then-next-bytes-2 : goal.returns-then-next-bytes-2
-returns-then-next-bytes-2 c = turn_over c.loop-u.invariant (omega arith) c.if-next-bytes-2.true
-
 pub returns : goal.returns
-returns c = turn_done c.loop-u.invariant (omega arith) c.if-next-bytes-2.false
+returns c = simp (c.then_some.ensures, c.is_empty.ensures) (turn_end c.loop-right.invariant (omega arith))

@@ -2,13 +2,7 @@ use Rattle.std.proofs.Common.{refl, ◌∙◌, arith}
 use Rattle.std.proofs.lemmas.Result.{err_from_is_err_and}
 use Rattle.records.proofs.Fields.{field_length}
 use Rattle.stream.proofs.Five.{bits_of, told, stays, five_size}
-use Rattle.stream.proofs.reads.read_arguments.Goals as goal
-
-pub returns-in_err-first : goal.returns-in_err-first
-returns-in_err-first c =
-    let p = err_from_is_err_and c.from_residual.result c.from_residual.ensures.1 in
-    let s = c.in_err-first.ensures in
-    rw (p.1, p.2) (s.fault, omega (arith, s.few, five_size c.args.map))
+use Rattle.stream.proofs.reads.Arguments.read.Goals as goal
 
 pub returns-in_err-second : goal.returns-in_err-second
 returns-in_err-second c =
@@ -47,9 +41,9 @@ returns-in_err-label c =
 pub returns : goal.returns
 returns c =
     let b = bits_of c.args.map in
-    let c₁ = c.byte_if.new.self in
-    let c₂ = c.byte_if-2.new.self in
-    let c₃ = c.byte_if-3.new.self in
-    let c₄ = c.byte_if-4.new.self in
-    let c₅ = c.u64_if.new.self in
+    let c₁ = c.field.new.self in
+    let c₂ = c.field-2.new.self in
+    let c₃ = c.field-3.new.self in
+    let c₄ = c.field-4.new.self in
+    let c₅ = c.field-5.new.self in
     (c₁, told b.bit_0 c.in_ok-first.ensures, (c₂, told b.bit_1 c.in_ok-second.ensures, (c₃, told b.bit_2 c.in_ok-third.ensures, (c₄, told b.bit_3 c.in_ok-fourth.ensures, (c₅, told b.bit_4 c.in_ok-label.ensures, (stays c₅, refl))))))
