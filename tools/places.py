@@ -1,59 +1,58 @@
 #!/usr/bin/env python3
-"""Counts, at a commit, the places in src/ that the design pass looks at: python3 tools/places.py COMMIT [POINT [-l]]
+"""Counts the places in src/ that the design pass looks at: python3 tools/places.py COMMIT [POINT] [-l]
 
-Each point has a few patterns, one for each form that is meant; a line of code that fits one of them is a place (comments and contracts are left out).
-A place counts as kept if a line that begins `// Kept:` stands above it, with nothing but comments, attributes and other places of the point between.
--l lists the places of a point."""
+Each point has a few patterns, one for each old form; a piece of code that fits one is a place. Comments are not looked at, and contracts only where a
+point is about them. A place counts as kept if a line that begins `// Kept:` stands in its function or type, or above the impl that it is in.
+-l lists the places."""
 import re
 import subprocess
 import sys
 
 POINTS = {
     1: [
-        (r"let (Some|Ok)\(.*\) = .* else \{", "an early return by hand"),
-        (r"^\s*None => (true|false|0|None|\(0, 0\)|\w+\(0\)),?$|^\s*_ => None,$|Err\(_\) => (None|false)", "a default by hand"),
-        (r"\bkind: u8\b|kind (>|==) 2", "a number for a kind"),
-        (r"fn number(_of)?\(|fn rank\(", "a number for a refusal or an order"),
+        (r"let (Some|Ok)\(.*\) = .* else \{\n\s*return (Err\(|None)", "an early return that is a `?`"),
+        (r"^\s*None => (true|false|0|None|\(0, 0\)|\w+\(0\)),?$|Err\(_\) => (None|false)", "a default by hand"),
+        (r"\bkind: u8\b|\bkind (>|==) 2\b", "a number for a kind"),
+        (r"fn (number|rank|number_of)\(.*\) -> u(8|16)\b", "a number for a refusal or an order"),
         (r'return "";|let mut last = 0;', "a value that stands for nothing"),
         (r"pub enum End\b", "an own enum of Result's shape"),
     ],
     2: [
-        (r"fn (put_)?(byte|u16|u64)(_if)?\b", "by the width of a number"),
-        (r"fn set_(parent|label|mixed|rights)\(&mut|fn (allow|bar)\(&mut self, user: u8, o: u8\)", "by the field that is set"),
-        (r"fn (users|subjects|objects)_end\b", "by the table"),
-        (r"fn (users?|subjects?|objects?)_(grouped|labelled)\b|fn (user_listed|lists_hold|is_owned|owners_exist|is_mixed_right|only_containers_mixed|is_placed|all_placed)\b", "a test and its loop, by the table"),
-        (r"fn (holds_one|holds_under|fits_one|all_fit|parent_differs|is_childless|program_differs|is_idle|held_over|labels_nest)\b", "a test and its loop, by the table"),
-        (r"fn is_(container|program)\(", "by the kind"),
-        (r"fn (kind_from|table_kind|kind_number|held_over_at)\b", "the same thing in two crates"),
-        (r"fn (table_rights|rights_bytes)\(", "there and back"),
-        (r"fn contains\(self, \w: u8\)", "by the width of a set"),
+        (r"fn (put_)?(byte|u16|u64)(_if)?[<(]", "one for each width of a number"),
+        (r"if let Some\(mut x\) = slot", "one for each field that is set"),
+        (r"fn (users|subjects|objects)_end\b", "one for each table"),
+        (r"for \w+ in .* \{\n\s*if .* \{\n\s*return (true|false);", "one loop for each question of all entries"),
+        (r"fn is_(container|program)\(", "one for each kind"),
+        (r"fn (kind_from|table_kind|kind_number)\b|Some\(\w+\) => held_above\(", "the same thing in two crates"),
+        (r"fn contains\(self, \w+: \w+\)", "one for each width of a set"),
         (r"fn read_roll\(", "the same thing in five programs"),
-        (r"fn (users_text|groups_text)\(heap: Global, t:", "by the table"),
-        (r"fn (house|old)_(guard|transcript)\(", "by the label"),
-        (r"fn (mix|unmix)<|fn (secrecy|trust)_label", "by one step"),
-        (r'"\{a\},\{b\};\{c\},\{d\}"', "the same print"),
-        (r"Question::(Label|Flows|Holds)\(SchemeName::(House|Old)", "by the label"),
+        (r"\} = t\.|if let Some\(\w+\) = t\.(user|group)\(number\)", "one for each table"),
+        (r"fn (house|old)_(guard|transcript)\(|fn (secrecy|trust)_label\(", "one for each label"),
+        (r"Container if !\w+(\.tables)?\.has_right\(s\.user, o, Right::WriteAttributes\)", "one for each mark"),
+        (r'"\{a\},\{b\};\{c\},\{d\}"|"(bad|roll) \{number\} \{place\}', "the same print"),
+        (r"SchemeName::(House|Old), \w+(, \w+)?\) =>", "one for each label"),
     ],
     3: [
         (r"\bfor \w+ in .*\.\.", "a loop over numbers"),
         (r"\bwhile\b", "a loop that counts or cuts by hand"),
-        (r"for \(\w+, \w+\) in .*enumerate", "a search by hand"),
+        (r"for \(\w+, \w+\) in .*enumerate\(\) \{\n\s*if", "a search by hand"),
     ],
     4: [
-        (r"fn (of\(n: u64\)|number\(&self\)|word\(&self\)|reason\(&self\)|bit\(self\)|number_of\()", "a conversion by hand"),
+        (r"fn (of\(n: u64\)|number\(&self\)|word\(&self\)|reason\(&self\)|number_of\()", "a conversion by hand"),
+        (r"fn bit\(self\) -> u8\n.*\n\s*\{\n\s*match", "a conversion by hand"),
         (r"fn (kind_from|table_kind|kind_number|table_rights|table_user|table_role|table_object|rights_bytes)\(", "a conversion by hand"),
         (r"fn rank\(", "an order by hand"),
         (r"fn (kind_word|right_word|record_word|fault_word|clause_letter|clause_text)\(", "printing by hand"),
         (r"fn read_(scheme|ask|parts|part|two)\(", "a conversion from text by hand"),
         (r"matches!\(", "an equality by hand"),
-        (r'"\{a\},\{b\};\{c\},\{d\}"', "printing by hand"),
+        (r"impl Display|impl fmt::Display for (Label|Refusal)\b", "a type that is there to be printed"),
     ],
     5: [
         (r"scheme: &S, t: &Tables|^\s*scheme: &S,$", "a scheme and its tables, side by side"),
         (r"ensures scheme \{ (self|guard)\.new\.scheme", "the scheme stays"),
         (r"ensures (kept|steady) \{", "blank or sound"),
         (r"bits: u8, number: u8", "a record's map and number, side by side"),
-        (r"fn \w+<S: Sink>\(out: &mut S", "a sink and what it took"),
+        (r"fn \w+<S: Sink.*>\(out: &mut S|fn \w+<S: Sink.*>\($", "a sink and what it took"),
     ],
     6: [
         (r"^\s*(pub )?bytes: &'a (mut )?\[u8\],$", "a buffer with a place beside it"),
@@ -62,15 +61,45 @@ POINTS = {
         (r"^\s*pub parent: u8,$", "a tree by numbers"),
     ],
     7: [
-        (r"match (call|number|ask|question|head\[1\]|scheme) \{", "a switch"),
+        (r"match (call|number|ask|question|head\[1\]|kind|scheme) \{(?!\n\s*(Kind|0)\b)", "a switch"),
         (r"^\s*return Some\(Clause::", "a row of tests"),
         (r"^\s*name\(&mut out, set, Right::", "a row of calls"),
     ],
 }
+ITEM = re.compile(r"\s*(pub(\(crate\))? )?(fn|struct|enum|trait|const|type|impl)\b")
 
 
 def git(*args):
     return subprocess.run(["git", *args], capture_output=True, text=True, check=True).stdout
+
+
+def blanked(line, point):
+    """The line as the patterns see it."""
+    code = line.strip()
+    hidden = code.startswith(("//", "#", "ghost")) or (point != 5 and code.startswith(("ensures", "requires")))
+    return "//" if hidden else line
+
+
+def above(lines, at):
+    """The comments and attributes right above a line."""
+    while at > 0 and lines[at - 1].strip().startswith(("//", "#[")):
+        at -= 1
+        yield lines[at]
+
+
+def kept(lines, at):
+    """Does a line `// Kept:` stand in the item around the line, or above the impl around it?"""
+    said = []
+    indent = len(lines[at]) - len(lines[at].lstrip())
+    first = at
+    while first >= 0 and not (ITEM.match(lines[first]) and (first == at or len(lines[first]) - len(lines[first].lstrip()) < indent)):
+        first -= 1
+    said += lines[first : at + 1] + list(above(lines, first))
+    outer = first
+    while outer > 0 and not lines[outer].startswith(("impl", "pub trait", "trait")) and lines[first].startswith(" "):
+        outer -= 1
+    said += list(above(lines, outer))
+    return any(l.strip().startswith("// Kept:") for l in said)
 
 
 def places(commit, point):
@@ -78,34 +107,28 @@ def places(commit, point):
     for path in git("ls-tree", "-r", "--name-only", commit, "crates").split():
         if "/src/" not in path or not path.endswith(".rt"):
             continue
-        kept = False
-        for at, line in enumerate(git("show", f"{commit}:{path}").split("\n"), 1):
-            code = line.strip()
-            if code.startswith("// Kept:"):
-                kept = True
-                continue
-            if code.startswith(("//", "#[")) or not code:
-                continue
-            form = None
-            if not code.startswith(("ensures", "requires", "ghost")):
-                form = next((f for p, f in POINTS[point] if re.search(p, line)), None)
-            elif point == 5:
-                form = next((f for p, f in POINTS[5] if re.search(p, line)), None)
-            if form:
-                yield path, at, code, form, kept
-            else:
-                kept = False
+        lines = git("show", f"{commit}:{path}").split("\n")
+        text = "\n".join(blanked(l, point) for l in lines)
+        seen = set()
+        for pattern, form in POINTS[point]:
+            for m in re.finditer(pattern, text, re.M):
+                at = text.count("\n", 0, m.start())
+                if text[m.start()] == "\n":
+                    at += 1
+                if at not in seen:
+                    seen.add(at)
+                    yield path, at + 1, lines[at].strip(), form, kept(lines, at)
 
 
 def main():
     commit = sys.argv[1]
-    points = [int(sys.argv[2])] if len(sys.argv) > 2 else sorted(POINTS)
-    for point in points:
-        found = list(places(commit, point))
+    wanted = [int(a) for a in sys.argv[2:] if a.isdigit()] or sorted(POINTS)
+    for point in wanted:
+        found = sorted(places(commit, point))
         print(f"point {point}: {len(found)} places, {sum(p[4] for p in found)} of them marked as kept")
         if "-l" in sys.argv:
-            for path, at, code, form, kept in found:
-                print(f"  {path}:{at}: {form}{' (kept)' if kept else ''}: {code}")
+            for path, at, code, form, stays in found:
+                print(f"  {path}:{at}: {form}{' (kept)' if stays else ''}: {code}")
 
 
 main()
