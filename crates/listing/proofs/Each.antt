@@ -1,5 +1,6 @@
 -- The texts of the numbers below n, one more at a time.
-use Rattle.std.proofs.Common.{◌≡◌, ℕ, ◌+◌, List, [], ◌++◌, Some, None, Option, sym, refl, ap, ◌∙◌, append_assoc, append-nil, add-one}
+use Rattle.std.specs.List.{repeat}
+use Rattle.std.proofs.Common.{◌≡◌, ℕ, zero, suc, ◌+◌, List, [], ◌++◌, Some, None, Option, sym, refl, ap, ◌∙◌, append_assoc, append-nil, add-one}
 use Rattle.listing.specs.Listed.{each, told}
 
 pub each_none : (f : ℕ → List ℕ) → each f 0 ≡ []
@@ -29,3 +30,14 @@ said f head before after slot x is p q = q ∙ ap (λ (bs : List ℕ). bs ++ f x
 
 pub unsaid : {A : Type 0} (f : A → List ℕ) (head out : List ℕ) (slot : Option A) → slot ≡ None → out ≡ head → out ≡ head ++ told f slot
 unsaid f head out slot is p = p ∙ sym (append-nil head) ∙ sym (ap (λ s. head ++ told f s) is)
+
+-- one text again and again
+each_around : (xs : List ℕ) (n : ℕ) → xs ++ each (λ _. xs) n ≡ each (λ _. xs) n ++ xs
+unfolding each
+each_around xs zero = append-nil xs
+each_around xs (suc n) = sym (append_assoc xs (each (λ _. xs) n) xs) ∙ ap (λ (bs : List ℕ). bs ++ xs) (each_around xs n)
+
+pub each_repeated : (xs : List ℕ) (n : ℕ) → repeat n xs ≡ each (λ _. xs) n
+unfolding each
+each_repeated xs zero = refl
+each_repeated xs (suc n) = ap (λ (bs : List ℕ). xs ++ bs) (each_repeated xs n) ∙ each_around xs n

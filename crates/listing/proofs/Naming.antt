@@ -1,7 +1,9 @@
 -- Words behind a text.
-use Rattle.std.proofs.Common.{◌≡◌, ℕ, Bool, true, false, cond, List, [], ◌∷◌, ◌++◌, length, codes, decimal, sym, refl, ap, ◌∙◌, append_assoc, arith, ne_eqb}
+use Rattle.std.proofs.Common.{◌≡◌, ℕ, suc, ◌+◌, ◌<◌, get_or, drop, drop-cons, add-one, Bool, true, false, cond, List, [], ◌∷◌, ◌++◌, length, codes, decimal, sym, refl, ap, ◌∙◌, append_assoc, arith, ne_eqb}
+use Rattle.tables.specs.declared.sets.Right.{Right}
+use Rattle.tables.specs.declared.sets.Right.TheVariants as right
 use Rattle.tables.specs.Sets.{has}
-use Rattle.listing.specs.Listed.{each, member_text, members_text, comma, or_none}
+use Rattle.listing.specs.Listed.{each, member_text, members_text, comma, naming, or_none}
 
 pub comma_first : (xs w : List ℕ) → length xs ≡ 0 → xs ++ w ≡ comma xs w
 comma_first [] w e = refl
@@ -30,3 +32,19 @@ member_passed set k e f = ap (λ (z : Bool). cond z (codes " " ++ decimal k) [])
 pub members_said : (title out : List ℕ) (set k : ℕ) → (set ≡ 0 → ⊥) → k ≡ 64 → out ≡ title ++ each (member_text set) k → out ≡ members_text title set
 members_said title out set k some all is =
     is ∙ ap (λ (n : ℕ). title ++ each (member_text set) n) all ∙ sym (ap (λ (b : Bool). cond b [] (title ++ each (member_text set) 64)) (ne_eqb set 0 some))
+
+abbrev pub rights : List Right
+rights = right.Read ∷ right.Write ∷ right.Create ∷ right.Delete ∷ right.ChangeRights ∷ right.Execute ∷ right.WriteAttributes ∷ []
+
+-- the rights of a set behind a text, one after another
+abbrev pub named : ℕ → List Right → List ℕ → List ℕ
+named set [] text = text
+named set (r ∷ rs) text = named set rs (naming set text r)
+
+pub named_next : (set k : ℕ) (rs : List Right) (d : Right) (before after all : List ℕ) → k < length rs → after ≡ naming set before (get_or rs k d) → named set (drop k rs) before ≡ all → named set (drop (k + 1) rs) after ≡ all
+named_next set k rs d before after all h is e =
+    let next : drop k rs ≡ get_or rs k d ∷ drop (suc k) rs = drop-cons rs k d h in
+    rw (is, add-one) (sym (ap (λ ts. named set ts before) next) ∙ e)
+
+pub named_all : (set k : ℕ) (text : List ℕ) → k ≡ 7 → named set (drop k rights) text ≡ named set rights [] → text ≡ named set rights []
+named_all set k text all e = sym (ap (λ (i : ℕ). named set (drop i rights) text) all) ∙ e

@@ -1,8 +1,8 @@
 //! A line for each user, group and object.
-ghost use Rattle.std.specs.Prelude.{◌≡◌, IfOk, string_bytes, codes};
-ghost use Rattle.listing.specs.Listed.{each, line_of_user, line_of_group, text_of_object, line_of_object, grant_text, indent as indent_text, members_text};
+ghost use Rattle.std.specs.Prelude.{◌≡◌, ℕ, List, IfOk, string_bytes, codes};
+ghost use Rattle.listing.specs.Listed.{each, line_of_user, line_of_group, text_of_object, line_of_object, grant_text, members_text};
 
-use crate::sets::{append, members, rights_text};
+use crate::sets::{members, rights_text};
 use crate::words::kind_word;
 use labels::Parts;
 use std::alloc::{AllocError, Global};
@@ -16,24 +16,36 @@ fn groups_text(heap: Global, groups: GroupSet) -> Result<String, AllocError>
     members(heap, ", groups", ObjectSet(u64::from(groups.0)))
 }
 
-/// The line of a user.
-pub(crate) fn user_line(heap: Global, number: u8, user: &User) -> Result<String, AllocError>
-    ensures { IfOk result (λ s. string_bytes s ≡ line_of_user number user.now) }
-{
-    let mark = if user.admin { ", administrator" } else { "" };
-    let groups = groups_text(heap, user.groups)?;
-    let programs = members(heap, ", allow list", user.allowed)?;
-    let floor = Parts::from(user.floor);
-    let top = Parts::from(user.top);
-    format!(in heap; "user {number}{mark}{groups}{programs}, range {floor} to {top}\n")
+/// What has a line of its own in a table.
+pub(crate) trait Entry {
+    ghost line_of: { ℕ → Self → List ℕ };
+
+    /// The line of entry `number`.
+    fn line(&self, heap: Global, number: usize) -> Result<String, AllocError>
+        ensures { IfOk result (λ s. string_bytes s ≡ line_of number self.now) };
 }
 
-/// The line of a group.
-pub(crate) fn group_line(heap: Global, number: u8, role: Rights) -> Result<String, AllocError>
-    ensures { IfOk result (λ s. string_bytes s ≡ line_of_group number role) }
-{
-    let role = rights_text(heap, role)?;
-    format!(in heap; "group {number}: {role}\n")
+impl Entry for User {
+    ghost line_of = { line_of_user };
+
+    fn line(&self, heap: Global, number: usize) -> Result<String, AllocError> {
+        let mark = if self.admin { ", administrator" } else { "" };
+        let groups = groups_text(heap, self.groups)?;
+        let programs = members(heap, ", allow list", self.allowed)?;
+        let floor = Parts::from(self.floor);
+        let top = Parts::from(self.top);
+        format!(in heap; "user {number}{mark}{groups}{programs}, range {floor} to {top}\n")
+    }
+}
+
+/// A group's entry is its role.
+impl Entry for Rights {
+    ghost line_of = { line_of_group };
+
+    fn line(&self, heap: Global, number: usize) -> Result<String, AllocError> {
+        let role = rights_text(heap, *self)?;
+        format!(in heap; "group {number}: {role}\n")
+    }
 }
 
 /// The rights of each user that has some on an object.
@@ -41,23 +53,11 @@ fn grants(heap: Global, sets: &[Rights; USERS]) -> Result<String, AllocError>
     ensures { IfOk result (λ s. string_bytes s ≡ each (grant_text sets.now) 16) }
 {
     let mut out = String::new(heap);
-    for user in 0..USERS {
-        let set = sets[user];
+    for (user, set) in sets.iter().enumerate() {
         if set.0 != 0 {
-            let rights = rights_text(heap, set)?;
-            append(&mut out, format!(in heap; "; user {user}: {rights}"))?;
+            let rights = rights_text(heap, *set)?;
+            write!(out, "; user {user}: {rights}")?;
         }
-    }
-    Ok(out)
-}
-
-/// Two spaces for each level of the tree.
-fn indent(heap: Global, depth: u8) -> Result<String, AllocError>
-    ensures { IfOk result (λ s. string_bytes s ≡ indent_text depth) }
-{
-    let mut out = String::new(heap);
-    for _level in 0..depth {
-        out.push_str("  ")?;
     }
     Ok(out)
 }
@@ -82,7 +82,7 @@ pub(crate) fn object_line(
 ) -> Result<String, AllocError>
     ensures { IfOk result (λ s. string_bytes s ≡ line_of_object depth number object.now) }
 {
-    let space = indent(heap, depth)?;
+    let space = "  ".repeat(heap, usize::from(depth))?;
     let text = object_text(heap, number, object)?;
     let groups = groups_text(heap, object.groups)?;
     let rights = grants(heap, &object.rights)?;

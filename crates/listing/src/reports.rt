@@ -4,7 +4,7 @@ ghost use Rattle.saving.specs.Saves.{saved};
 ghost use Rattle.listing.specs.Reports.{listed, Reported};
 
 use crate::refusals::Refusal;
-use crate::tables_text::{groups_text, objects_text, users_text};
+use crate::tables_text::{objects_text, table_text};
 use labels::{House, house_label};
 use monitor::Guard;
 use std::alloc::{AllocError, Global};
@@ -25,8 +25,8 @@ fn saves_as(heap: Global, guard: &Guard<House>, bytes: &[u8]) -> Result<bool, Al
 fn list(heap: Global, t: &Tables, count: usize, same: bool) -> Result<String, AllocError>
     ensures { IfOk result (λ s. string_bytes s ≡ listed t.now count same) }
 {
-    let users = users_text(heap, t)?;
-    let groups = groups_text(heap, t)?;
+    let users = table_text(heap, "users:\n", &t.users)?;
+    let groups = table_text(heap, "groups:\n", &t.groups)?;
     let objects = objects_text(heap, t)?;
     let which = if same { "the same" } else { "OTHER" };
     format!(in heap; "{users}{groups}{objects}{count} bytes, saved as {which} bytes\n")

@@ -1,5 +1,5 @@
 //! Sets in words.
-ghost use Rattle.std.specs.Prelude.{◌≡◌, ℕ, List, ◌++◌, IfOk, string_bytes, OnOk};
+ghost use Rattle.std.specs.Prelude.{◌≡◌, IfOk, string_bytes, OnOk};
 ghost use Rattle.listing.specs.Listed.{members_text, naming, text_of_rights};
 
 use crate::words::right_word;
@@ -7,12 +7,16 @@ use std::alloc::{AllocError, Global};
 use tables::sets::{ObjectSet, Right, Rights};
 use tables::types::OBJECTS;
 
-/// Adds a text behind another, where it could be made.
-pub(crate) fn append(out: &mut String, text: Result<String, AllocError>) -> Result<(), AllocError>
-    ensures { (bs : List ℕ) → IfOk text (λ s. string_bytes s ≡ bs) → OnOk result (string_bytes out.new ≡ string_bytes out.old ++ bs) }
-{
-    out.push_str(text?.as_str())
-}
+/// The rights in the order in which they are named.
+const RIGHTS: [Right; 7] = [
+    Right::Read,
+    Right::Write,
+    Right::Create,
+    Right::Delete,
+    Right::ChangeRights,
+    Right::Execute,
+    Right::WriteAttributes,
+];
 
 /// The numbers in a set, behind a title: nothing where the set is empty.
 pub(crate) fn members(heap: Global, title: &str, set: ObjectSet) -> Result<String, AllocError>
@@ -25,7 +29,7 @@ pub(crate) fn members(heap: Global, title: &str, set: ObjectSet) -> Result<Strin
     out.push_str(title)?;
     for k in 0..OBJECTS as u8 {
         if set.contains(k) {
-            append(&mut out, format!(in heap; " {k}"))?;
+            write!(out, " {k}")?;
         }
     }
     Ok(out)
@@ -49,13 +53,9 @@ pub(crate) fn rights_text(heap: Global, set: Rights) -> Result<String, AllocErro
     ensures { IfOk result (λ s. string_bytes s ≡ text_of_rights set.0) }
 {
     let mut out = String::new(heap);
-    name(&mut out, set, Right::Read)?;
-    name(&mut out, set, Right::Write)?;
-    name(&mut out, set, Right::Create)?;
-    name(&mut out, set, Right::Delete)?;
-    name(&mut out, set, Right::ChangeRights)?;
-    name(&mut out, set, Right::Execute)?;
-    name(&mut out, set, Right::WriteAttributes)?;
+    for right in RIGHTS {
+        name(&mut out, set, right)?;
+    }
     if out.is_empty() {
         out.push_str("no rights")?;
     }

@@ -1,35 +1,25 @@
 //! The tables: a heading for each, and a line for each entry.
-ghost use Rattle.std.specs.Prelude.{◌≡◌, ◌-◌, IfOk, string_bytes};
+ghost use Rattle.std.specs.Prelude.{◌≡◌, ◌-◌, ◌++◌, slice_index_or, IfOk, string_bytes};
 ghost use Rattle.std.specs.Option.{option_map};
 ghost use Rattle.tables.specs.State.{object_at};
-ghost use Rattle.listing.specs.Listed.{text_of_users, text_of_groups, child_under, text_of_tree, text_of_objects};
+ghost use Rattle.listing.specs.Listed.{each, told, child_under, text_of_tree, text_of_objects};
 
-use crate::lines::{group_line, object_line, user_line};
-use crate::sets::append;
+use crate::lines::{Entry, object_line};
 use std::alloc::{AllocError, Global};
-use tables::types::{GROUPS, OBJECTS, Object, Tables, USERS};
+use tables::types::{OBJECTS, Object, Tables};
 
-/// The users.
-pub(crate) fn users_text(heap: Global, t: &Tables) -> Result<String, AllocError>
-    ensures { IfOk result (λ s. string_bytes s ≡ text_of_users t.now) }
+/// A table of users or groups.
+pub(crate) fn table_text<T: Entry, const N: usize>(
+    heap: Global,
+    title: &str,
+    slots: &[Option<T>; N],
+) -> Result<String, AllocError>
+    ensures { IfOk result (λ s. string_bytes s ≡ title.now ++ each (λ n. told (T.Entry.line_of n) (slice_index_or slots.now n None)) N) }
 {
-    let mut out = String::from_str(heap, "users:\n")?;
-    for number in 0..USERS as u8 {
-        if let Some(user) = t.user(number) {
-            append(&mut out, user_line(heap, number, user))?;
-        }
-    }
-    Ok(out)
-}
-
-/// The groups.
-pub(crate) fn groups_text(heap: Global, t: &Tables) -> Result<String, AllocError>
-    ensures { IfOk result (λ s. string_bytes s ≡ text_of_groups t.now) }
-{
-    let mut out = String::from_str(heap, "groups:\n")?;
-    for number in 0..GROUPS as u8 {
-        if let Some(role) = t.group(number) {
-            append(&mut out, group_line(heap, number, role))?;
+    let mut out = String::from_str(heap, title)?;
+    for (number, slot) in slots.iter().enumerate() {
+        if let Some(entry) = slot {
+            out.push_str(entry.line(heap, number)?.as_str())?;
         }
     }
     Ok(out)
@@ -39,12 +29,7 @@ pub(crate) fn groups_text(heap: Global, t: &Tables) -> Result<String, AllocError
 fn child_of(t: &Tables, parent: u8, o: u8) -> Option<&Object>
     ensures { option_map (λ x. x.now) result ≡ child_under parent (object_at t.now o) }
 {
-    let object = t.object(o)?;
-    if object.parent == parent {
-        Some(object)
-    } else {
-        None
-    }
+    t.object(o).filter(|object| object.parent == parent)
 }
 
 /// An object and, under it, those whose parent it is, in ascending order. No object of a tree is deeper than they are many.
@@ -61,7 +46,7 @@ fn tree_text(
     if depth < OBJECTS as u8 {
         for o in 1..OBJECTS as u8 {
             if let Some(child) = child_of(t, number, o) {
-                append(&mut out, tree_text(heap, t, depth + 1, o, child))?;
+                out.push_str(tree_text(heap, t, depth + 1, o, child)?.as_str())?;
             }
         }
     }
@@ -74,7 +59,7 @@ pub(crate) fn objects_text(heap: Global, t: &Tables) -> Result<String, AllocErro
 {
     let mut out = String::from_str(heap, "objects:\n")?;
     if let Some(root) = t.object(0) {
-        append(&mut out, tree_text(heap, t, 0, 0, root))?;
+        out.push_str(tree_text(heap, t, 0, 0, root)?.as_str())?;
     }
     Ok(out)
 }

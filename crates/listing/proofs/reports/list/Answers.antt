@@ -1,5 +1,5 @@
 use Rattle.std.proofs.Common.{◌≡◌, ℕ, Bool, cond, List, ◌++◌, codes, decimal, sym, ap, ◌∙◌}
-use Rattle.std.proofs.lemmas.Result.{IfOk-from_err, IfOk-weaker}
+use Rattle.std.proofs.lemmas.Result.{IfOk-weaker}
 use Rattle.listing.proofs.reports.list.Goals as goal
 use Rattle.listing.proofs.reports.list.Goals.{then-same, else-same}
 
@@ -7,15 +7,6 @@ use Rattle.listing.proofs.reports.list.Goals.{then-same, else-same}
 joined : (n : ℕ) (a b c d a' b' c' d' : List ℕ) → a ≡ a' → b ≡ b' → c ≡ c' → d ≡ d'
     → a ++ (b ++ (c ++ (decimal n ++ (codes " bytes, saved as " ++ (d ++ codes " bytes\n"))))) ≡ a' ++ (b' ++ (c' ++ (decimal n ++ (codes " bytes, saved as " ++ (d' ++ codes " bytes\n")))))
 joined n a b c d a' b' c' d' p q r s = cc
-
-pub returns-in_err-users : goal.returns-in_err-users
-returns-in_err-users c = IfOk-from_err c.from_residual.result _ c.from_residual.ensures.0
-
-pub returns-in_err-groups : goal.returns-in_err-groups
-returns-in_err-groups c = IfOk-from_err c.from_residual-in_err-groups.result _ c.from_residual-in_err-groups.ensures.0
-
-pub returns-in_err-objects : goal.returns-in_err-objects
-returns-in_err-objects c = IfOk-from_err c.from_residual-in_err-objects.result _ c.from_residual-in_err-objects.ensures.0
 
 pub returns : goal.returns
 returns c =

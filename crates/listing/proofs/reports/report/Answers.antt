@@ -1,5 +1,5 @@
 use Rattle.std.proofs.Common.{◌≡◌, true, length, Ok, Err, ap, ◌∙◌, subst}
-use Rattle.std.proofs.lemmas.Result.{IfOk-from_err, IfOk-weaker}
+use Rattle.std.proofs.lemmas.Result.{IfOk-weaker}
 use Rattle.labels.specs.Built.{house_of}
 use Rattle.labels.specs.House.{house}
 use Rattle.labels.specs.Meaning.{Meaning}
@@ -7,9 +7,6 @@ use Rattle.tables.specs.declared.types.Tables.{Tables}
 use Rattle.monitor.specs.Loads.{Loads}
 use Rattle.listing.specs.Reports.{listed}
 use Rattle.listing.proofs.reports.report.Goals as goal
-
-pub returns-in_err-same-in-Ok : goal.returns-in_err-same-in-Ok
-returns-in_err-same-in-Ok c = IfOk-from_err c.from_residual.result _ c.from_residual.ensures.0
 
 pub returns-in_ok-same-in-Ok : goal.returns-in_ok-same-in-Ok
 returns-in_ok-same-in-Ok c =

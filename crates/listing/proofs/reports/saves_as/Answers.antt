@@ -2,14 +2,10 @@ use Rattle.std.proofs.Common.{◌≡◌, ℕ, List, ◌++◌, length, drop, sym,
 use borrow.Author.Tests.{both_ways}
 use Rattle.std.proofs.lemmas.Slice.Eq.{slice_eq-Decides}
 use Rattle.saving.specs.Saves.{saved}
-use Rattle.std.proofs.lemmas.Result.{IfOk-from_err}
 use Rattle.listing.proofs.Saving.{read_whole}
 use Rattle.listing.proofs.reports.saves_as.Goals as goal
 use Rattle.listing.proofs.reports.saves_as.Goals.{in-Ok+then-n-bytes, in-Ok+else-n-bytes, in-Err}
 use Rattle.std.proofs.lemmas.Bool.Decides.{Decides-eqb}
-
-pub returns-in_err-buf : goal.returns-in_err-buf
-returns-in_err-buf c = IfOk-from_err c.from_residual.result _ c.from_residual.ensures.0
 
 pub returns : goal.returns
 returns c =

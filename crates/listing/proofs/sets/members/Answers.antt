@@ -1,16 +1,9 @@
 use Rattle.std.proofs.Common.{◌≡◌, ℕ, List, ◌++◌, string_bytes, codes, decimal, ap, ◌∙◌, arith}
-use Rattle.std.proofs.lemmas.Result.{IfOk-from_err}
 use Rattle.listing.specs.Listed.{member_text}
 use Rattle.listing.proofs.Each.{started, stepped, passed}
 use Rattle.listing.proofs.Naming.{member_said, member_passed, members_said}
 use Rattle.listing.proofs.sets.members.Goals as goal
-use Rattle.listing.proofs.sets.members.Goals.{then-contains+in_ok-append, else-contains}
-
-pub returns-in_err-push_str : goal.returns-in_err-push_str
-returns-in_err-push_str c = IfOk-from_err c.from_residual.result _ c.from_residual.ensures.0
-
-pub returns-in_err-append : goal.returns-in_err-append
-returns-in_err-append c = IfOk-from_err c.from_residual-in_err-append.result _ c.from_residual-in_err-append.ensures.0
+use Rattle.listing.proofs.sets.members.Goals.{then-contains+in_ok-write, else-contains}
 
 pub loop-k-init : goal.loop-k-init
 loop-k-init c =
@@ -20,9 +13,9 @@ loop-k-init c =
 pub loop-k-preserved : goal.loop-k-preserved
 loop-k-preserved c =
     elim c.if-contains.branch [
-      | then-contains+in_ok-append w ↦
+      | then-contains+in_ok-write w ↦
           stepped c.args.title.now (member_text c.args.set.0) c.loop-k.k-counter (string_bytes c.loop-k.out) (string_bytes c.if-contains.out) (codes " " ++ decimal c.loop-k.k-counter) c.loop-k.invariant
-          (ap string_bytes w.out-is ∙ w.in_ok-append.ensures (codes " " ++ decimal c.loop-k.k-counter) w.format.ensures.ok)
+          (ap string_bytes w.out-is ∙ w.in_ok-write.ensures.bytes)
           (member_said c.args.set.0 c.loop-k.k-counter c.contains.ensures w.if-contains.true)
       | else-contains w ↦
           ap string_bytes w.out-is

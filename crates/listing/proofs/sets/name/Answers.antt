@@ -1,17 +1,10 @@
 use Rattle.std.proofs.Common.{◌≡◌, ℕ, Bool, true, cond, List, ◌++◌, length, string_bytes, sym, ap, ◌∙◌, rules}
 use Rattle.tables.specs.Sets.{has, bit_of}
-use Rattle.std.proofs.lemmas.Result.{IfOk-from_err}
 use Rattle.listing.specs.Words.{word_of_right}
 use Rattle.listing.specs.Listed.{comma}
 use Rattle.listing.proofs.Naming.{comma_first, comma_more}
 use Rattle.listing.proofs.sets.name.Goals as goal
 use Rattle.listing.proofs.sets.name.Goals.{then-not-is_empty+in_ok-push_str, else-not-is_empty}
-
-pub returns-in_err-push_str : goal.returns-in_err-push_str
-returns-in_err-push_str c = IfOk-from_err c.from_residual.result _ c.from_residual.ensures.0
-
-pub returns-in_err-push_str-2 : goal.returns-in_err-push_str-2
-returns-in_err-push_str-2 c = IfOk-from_err c.from_residual-in_err-push_str-2.result _ c.from_residual-in_err-push_str-2.ensures.0
 
 pub returns-in_ok-push_str-2 : goal.returns-in_ok-push_str-2
 returns-in_ok-push_str-2 c =

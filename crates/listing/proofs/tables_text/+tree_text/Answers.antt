@@ -1,18 +1,11 @@
 use Rattle.std.proofs.Common.{◌≡◌, ℕ, ◌+◌, ◌-◌, ◌<◌, List, ◌++◌, string_bytes, sym, refl, ap, ◌∙◌, arith}
 use Rattle.std.specs.Option.{option_map}
 use Rattle.tables.specs.declared.types.Object.{Object}
-use Rattle.std.proofs.lemmas.Result.{IfOk-from_err}
 use Rattle.listing.specs.Listed.{each, line_of_object, under, text_of_tree}
 use Rattle.listing.proofs.Each.{started, stepped, passed}
 use Rattle.listing.proofs.Trees.{under_some, under_none, tree_leaf, tree_node, tree_next}
 use Rattle.listing.proofs.tables_text.+tree_text.Goals as goal
-use Rattle.listing.proofs.tables_text.+tree_text.Goals.{in-Some+in_ok-append, in_default, then-depth+else-loop-o-test, else-depth}
-
-pub returns-in_err-out : goal.returns-in_err-out
-returns-in_err-out t c = IfOk-from_err c.from_residual.result _ c.from_residual.ensures.0
-
-pub returns-in_err-append : goal.returns-in_err-append
-returns-in_err-append t c = IfOk-from_err c.from_residual-in_err-append.result _ c.from_residual-in_err-append.ensures.0
+use Rattle.listing.proofs.tables_text.+tree_text.Goals.{in-Some+in_ok-tree_text+in_ok-push_str, in_default, then-depth+else-loop-o-test, else-depth}
 
 pub loop-o-init : goal.loop-o-init
 loop-o-init t c =
@@ -28,11 +21,11 @@ loop-o-preserved t c =
     let o = c.loop-o.o in
     let past : 0 < o = omega arith in
     elim c.match-child_of.branch [
-      | in-Some+in_ok-append w ↦
+      | in-Some+in_ok-tree_text+in_ok-push_str w ↦
           let text = text_of_tree c.args.t.now (64 - (c.args.depth + 1)) (c.args.depth + 1) o w.in-Some.child.now in
           let child = sym c.child_of.ensures ∙ ap (option_map (λ x. x.now)) w.in-Some.is in
           stepped line f o (string_bytes c.loop-o.out) (string_bytes c.match-child_of.out) text c.loop-o.invariant
-          (ap string_bytes w.out-is ∙ w.in_ok-append.ensures text w.tree_text.ensures)
+          (ap string_bytes w.out-is ∙ w.in_ok-push_str.ensures.bytes ∙ ap (λ (bs : List ℕ). string_bytes c.loop-o.out ++ bs) (w.as_str.ensures.value ∙ w.in_ok-tree_text.ensures))
           (under_some c.args.t.now c.args.number g o w.in-Some.child.now past child
           ∙ tree_next c.args.t.now c.args.depth o w.in-Some.child.now c.if-depth.true)
       | in_default w ↦
