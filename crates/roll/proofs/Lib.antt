@@ -2,3 +2,4 @@ pub mod Loads
 pub mod Sure
 pub mod Filling
 pub mod Trips
+pub mod Order

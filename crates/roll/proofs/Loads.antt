@@ -1,13 +1,8 @@
 -- The loop that loads a roll.
-use Rattle.std.proofs.Common.{◌≡◌, ℕ, ◌+◌, ◌<◌, false, List, [], ◌∷◌, ◌++◌, length, drop, Some, None, Option, Ok, Err, sym, refl, ap, ◌∙◌, subst, append_assoc, append-nil, arith, length-append}
+use Rattle.std.proofs.Common.{◌≤◌, ◌≡◌, ℕ, ◌+◌, ◌<◌, List, [], ◌∷◌, ◌++◌, length, drop, Ok, Err, sym, refl, ap, ◌∙◌, subst, append_assoc, append-nil, arith, length-append}
 use Rattle.std.specs.List.{flat_map}
 use Rattle.std.proofs.slice.Lists.{all_by_recursion_push}
 use Rattle.std.proofs.lemmas.List.{flat_map_more, nil_from_length}
-use Rattle.std.specs.Ordering.{nat_cmp, is_le, partial_le, MatchOrdering}
-use Rattle.std.specs.Option.{option_partial_cmp}
-use Rattle.std.specs.Cmp.{ranked}
-use Rattle.std.specs.declared.cmp.Ordering.{Ordering}
-use Rattle.std.specs.declared.cmp.Ordering.TheVariants.{Less, Equal, Greater}
 use Rattle.byte_cursor.specs.declared.cursors.Cursor.{Cursor}
 use Rattle.records.specs.declared.forms.Record.{Record}
 use Rattle.records.specs.declared.forms.Record.TheVariants as record_of
@@ -35,26 +30,6 @@ pub some_bytes : (x : Record) → 0 < length (encode x)
 some_bytes (record_of.User u) = omega arith
 some_bytes (record_of.Group g) = omega arith
 some_bytes (record_of.Object o) = omega arith
-
--- the place of the last record, 0 where there is none
-abbrev pub number_of : Option ℕ → ℕ
-number_of None = 0
-number_of (Some k) = k
-
-greater : (k l : ℕ) (r : Ordering) → MatchOrdering r (k < l) (k ≡ l) (l < k) → is_le r ≡ false → l < k
-greater k l Less m e = cc
-greater k l Equal m e = cc
-greater k l Greater m e = m
-
--- a place that is not at most the last one's is above it
-pub above : (k : ℕ) (last : Option ℕ) → 0 < k → partial_le (option_partial_cmp (λ x y. Some (nat_cmp x y))) (Some k) last ≡ false → number_of last < k
-above k None p h = p
-above k (Some l) p h = greater k l (nat_cmp k l) (ranked k l (nat_cmp k l) refl) h
-
-pub some_place : (x : Record) → 0 < rank_of x
-some_place (record_of.User u) = omega arith
-some_place (record_of.Group g) = omega arith
-some_place (record_of.Object o) = omega arith
 
 -- the records rs were read
 pub record Sofar (bytes : List ℕ) (c : Cursor) (last : ℕ) (t : Tables) (rs : List Record) : Type 0 where
@@ -86,6 +61,9 @@ module _ {bytes : List ℕ} {a : Cursor} {last : ℕ} {t : Tables} {rs : List Re
 
   pub sofar_fault : (f : RecordFault) → 0 < length (left a) → Faulty a.place (left a) f → Says bytes (Err f)
   sofar_fault f some w = (rs, left a, s.roll, s.split, some, next (length (flat_map encode rs)) f s.place w)
+
+  pub sofar_order : {b : Cursor} (x : Record) (q : ℕ) → 0 < length (left a) → q ≡ a.place → InForm x → Took a b (encode x) → rank_of x ≤ last → Says bytes (Err (record_fault.Order q))
+  sofar_order {b} x q some e f k le = (rs, left a, s.roll, s.split, some, (e ∙ s.place, (x, left b, f, k.split, subst (λ m. rank_of x ≤ m) s.last_is le)))
 
   pub sofar_done : length (left a) ≡ 0 → Says bytes (Ok t)
   sofar_done none = (rs, s.roll, s.split ∙ ap (λ l. flat_map encode rs ++ l) (nil_from_length (left a) none) ∙ append-nil (flat_map encode rs), s.made)

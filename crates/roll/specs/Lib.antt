@@ -1,3 +1,4 @@
 pub mod Slots
 pub mod Rolls
 pub mod Formed
+pub mod Places

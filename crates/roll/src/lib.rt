@@ -1,6 +1,7 @@
 //! The roll: the tables as a canonical run of bytes.
 #![tactic(auto)]
 
+mod places;
 mod reading;
 mod slots;
 

@@ -1,8 +1,9 @@
 //! Reads a roll into tables.
 ghost use Rattle.std.specs.Prelude.{◌≡◌};
 ghost use Rattle.records.specs.Records.{InForm};
-ghost use Rattle.roll.specs.Rolls.{rank_of, put_in, Says};
+ghost use Rattle.roll.specs.Rolls.{put_in, Says};
 
+use crate::places::Place;
 use crate::slots::{table_object, table_role, table_user};
 use byte_cursor::Cursor;
 use records::{Record, RecordFault, read_record};
@@ -20,17 +21,6 @@ fn put(t: &mut Tables, r: &Record)
     }
 }
 
-/// Where a record stands in the order of kind, then number.
-fn rank(r: &Record) -> u16
-    ensures { result ≡ rank_of r.now }
-{
-    match r {
-        Record::User(u) => 256 + u16::from(u.number),
-        Record::Group(g) => 512 + u16::from(g.number),
-        Record::Object(o) => 768 + u16::from(o.number),
-    }
-}
-
 /// The tables that a roll says, or what is wrong with its first bad record.
 pub fn read_tables(bytes: &[u8]) -> Result<Tables, RecordFault>
     ensures { Says bytes.now result }
@@ -41,7 +31,7 @@ pub fn read_tables(bytes: &[u8]) -> Result<Tables, RecordFault>
     while !c.at_end() {
         let first = c.place();
         let record = read_record(&mut c)?;
-        let next = Some(rank(&record));
+        let next = Some(Place::from(&record));
         if next <= last {
             return Err(RecordFault::Order(first));
         }

@@ -1,8 +1,6 @@
 -- How long records are.
 use Rattle.std.proofs.Common.{◌≡◌, ℕ, zero, suc, ◌/◌, ◌≤◌, true, false, cond, eqb, List, [], ◌∷◌, ◌++◌, length, refl, ap, arith, length-append}
 use Rattle.byte_cursor.specs.Bytes.{le}
-use Rattle.records.specs.declared.forms.GroupRecord.{GroupRecord}
-use Rattle.records.specs.declared.forms.UserRecord.{UserRecord}
 use Rattle.records.specs.declared.forms.ObjectRecord.{ObjectRecord}
 use Rattle.records.specs.declared.forms.Record.TheVariants as record_of
 use Rattle.records.specs.Records.{field, encode}
@@ -25,17 +23,6 @@ rights_short : (rs : List ℕ) → length rs ≡ 16 → length (rights_body rs) 
 rights_short rs e =
     let h = bytes_short rs in
     elim (eqb (marks_number rs) 0) as (λ z. length (cond z [] (le 2 (marks_number rs) ++ bytes_of rs)) ≤ 18) [ true ↦ omega arith | false ↦ omega arith ]
-
-pub group_short : (g : GroupRecord) → length (encode (record_of.Group g)) ≤ 4
-group_short g = omega (arith, field_short 1 g.role)
-
-pub user_short : (u : UserRecord) → length (encode (record_of.User u)) ≤ 29
-user_short u =
-    let a = field 2 u.groups in
-    let b = field 8 u.allow in
-    let c = field 8 u.floor in
-    let d = field 8 u.top in
-    omega (arith, length-append a (b ++ (c ++ d)), length-append b (c ++ d), length-append c d, field_short 2 u.groups, field_short 8 u.allow, field_short 8 u.floor, field_short 8 u.top)
 
 pub object_short : (o : ObjectRecord) → length o.rights ≡ 16 → length (encode (record_of.Object o)) ≤ 34
 object_short o l =

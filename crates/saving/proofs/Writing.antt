@@ -1,11 +1,10 @@
 -- One run of bytes after another, in each sink.
-use Rattle.std.proofs.Common.{◌≡◌, ℕ, ◌+◌, ◌-◌, ◌<◌, ◌≤◌, List, [], ◌++◌, length, take, drop, sym, refl, ap, ◌∙◌, append_assoc, add-zero, arith, length-append, length-drop, take-append-drop}
+use Rattle.std.proofs.Common.{◌≡◌, ℕ, ◌+◌, ◌-◌, ◌≤◌, List, [], ◌++◌, length, take, drop, sym, refl, ap, ◌∙◌, append_assoc, add-zero, arith, length-append, length-drop, take-append-drop}
 use borrow.Rule.Slice.PartMut.{put_mid}
 use Rattle.std.proofs.lemmas.List.{drop-drop, length-take-le, take_at, drop_at}
-use Rattle.saving.specs.declared.sinks.Counter.{Counter}
 use Rattle.saving.specs.declared.sinks.Writer.{Writer}
 use Rattle.saving.specs.Saves.{wrote}
-use Rattle.saving.specs.Writes.{Counted, Written}
+use Rattle.saving.specs.Writes.{Written}
 
 pub wrote_none : (buf : List ℕ) (p : ℕ) → buf ≡ wrote buf p []
 wrote_none buf p = sym (ap (λ k. take p buf ++ drop k buf) (add-zero p) ∙ take-append-drop p buf)
@@ -49,10 +48,3 @@ written_more a b c xs ys p q =
       bytes = λ h. q.bytes (second h) ∙ (λ i. wrote (p.bytes (first h) i) (p.place (first h) i) ys) ∙ wrote_more a.bytes.now a.place xs ys (first h);
       place = λ h. let s = p.place (first h) in let t = q.place (second h) in omega arith;
     }
-
-pub counted_more : (a b c : Counter) (xs ys : List ℕ) → Counted a xs b → Counted b ys c → Counted a (xs ++ ys) c
-counted_more a b c xs ys p q = let e = length-append xs ys in omega arith
-
--- what does not fit is not written
-pub written_full : (a : Writer) (xs : List ℕ) → length a.bytes.now < a.place + length xs → Written a xs a
-written_full a xs h = record { held = refl; long = refl; bytes = λ k. absurd (omega arith); place = λ k. absurd (omega arith) }

@@ -3,45 +3,44 @@ ghost use Rattle.std.specs.Prelude.{◌≡◌, ℕ, ◌≤◌, map, length};
 ghost use Rattle.records.specs.declared.forms.Record.{Record};
 ghost use Rattle.records.specs.declared.forms.Record.TheVariants as record_of;
 ghost use Rattle.records.specs.Records.{encode};
-ghost use Rattle.tables.specs.Kinds.{number_of_kind};
 ghost use Rattle.roll.specs.Slots.{rights_byte, user_record, group_record, object_record};
 ghost use Rattle.saving.specs.Takes.{Took};
 
-use crate::fields::{put_byte, put_rights, put_u16, put_u64};
+use crate::fields::{put_number, put_rights};
 use crate::sinks::Sink;
 use records::{GroupRecord, ObjectRecord, Record, UserRecord, group_map, object_map, user_map};
 use tables::sets::Rights;
-use tables::types::{Kind, Object, User};
+use tables::types::{Object, User};
 
 /// A group's record.
 fn put_group<S: Sink>(out: &mut S, g: &GroupRecord)
     ensures { Took S.Sink.puts out.old (encode (record_of.Group g.now)) out.new }
 {
-    out.put(&[group_map(g), 2, g.number]);
-    put_byte(out, g.role);
+    out.put(&[group_map(g), Record::GROUP, g.number]);
+    put_number(out, g.role);
 }
 
 /// A user's record.
 fn put_user<S: Sink>(out: &mut S, u: &UserRecord)
     ensures { Took S.Sink.puts out.old (encode (record_of.User u.now)) out.new }
 {
-    out.put(&[user_map(u), 1, u.number]);
-    put_u16(out, u.groups);
-    put_u64(out, u.allow);
-    put_u64(out, u.floor);
-    put_u64(out, u.top);
+    out.put(&[user_map(u), Record::USER, u.number]);
+    put_number(out, u.groups);
+    put_number(out, u.allow);
+    put_number(out, u.floor);
+    put_number(out, u.top);
 }
 
 /// An object's record.
 fn put_object<S: Sink>(out: &mut S, o: &ObjectRecord)
     ensures { Took S.Sink.puts out.old (encode (record_of.Object o.now)) out.new }
 {
-    out.put(&[object_map(o), 3, o.number]);
-    put_byte(out, o.parent);
-    put_byte(out, o.kind);
-    put_byte(out, o.owner);
-    put_u64(out, o.label);
-    put_u16(out, o.groups);
+    out.put(&[object_map(o), Record::OBJECT, o.number]);
+    put_number(out, o.parent);
+    put_number(out, o.kind);
+    put_number(out, o.owner);
+    put_number(out, o.label);
+    put_number(out, o.groups);
     put_rights(out, &o.rights);
 }
 
@@ -99,27 +98,12 @@ impl Entry for Rights {
     }
 }
 
-/// The number of a kind in a record.
-fn kind_number(k: Kind) -> u8
-    ensures { result ≡ number_of_kind k }
-{
-    match k {
-        Kind::Container => 0,
-        Kind::File => 1,
-        Kind::Program => 2,
-    }
-}
-
 /// The rights as bytes.
 fn rights_bytes(rights: &[Rights; 16]) -> [u8; 16]
     ensures is { result ≡ map rights_byte rights.now }
     ensures long { length result ≡ 16 }
 {
-    let mut bytes = [0u8; 16];
-    for u in 0..16usize {
-        bytes[u] = rights[u].0;
-    }
-    bytes
+    rights.map(|r| r.0)
 }
 
 impl Entry for Object {
@@ -131,7 +115,7 @@ impl Entry for Object {
         Record::Object(ObjectRecord {
             number,
             parent: self.parent,
-            kind: kind_number(self.kind),
+            kind: u8::from(self.kind),
             owner: self.owner,
             label: self.label,
             mixed: self.mixed,

@@ -4,32 +4,16 @@ ghost use Rattle.records.specs.Rights.{bytes_of, rights_body};
 ghost use Rattle.saving.specs.Takes.{Took};
 
 use crate::sinks::Sink;
+use byte_cursor::Little;
 use records::marks_of;
 
-/// A field of one byte.
-pub(crate) fn put_byte<S: Sink>(out: &mut S, b: u8)
-    ensures { Took S.Sink.puts out.old (field 1 b) out.new }
+// Kept: not a method of `Sink`, as a trait's method may have no const parameter.
+/// A field of a number.
+pub(crate) fn put_number<S: Sink, T: Little<N>, const N: usize>(out: &mut S, number: T)
+    ensures { Took S.Sink.puts out.old (field N (T.value number)) out.new }
 {
-    if b != 0 {
-        out.put(&[b]);
-    }
-}
-
-/// A field of two bytes.
-pub(crate) fn put_u16<S: Sink>(out: &mut S, n: u16)
-    ensures { Took S.Sink.puts out.old (field 2 n) out.new }
-{
-    if n != 0 {
-        out.put(&n.to_le_bytes());
-    }
-}
-
-/// A field of eight bytes.
-pub(crate) fn put_u64<S: Sink>(out: &mut S, v: u64)
-    ensures { Took S.Sink.puts out.old (field 8 v) out.new }
-{
-    if v != 0 {
-        out.put(&v.to_le_bytes());
+    if number != T::ZERO {
+        out.put(&number.to_bytes());
     }
 }
 
@@ -38,7 +22,7 @@ fn put_bytes<S: Sink>(out: &mut S, bytes: &[u8])
     ensures { Took S.Sink.puts out.old (bytes_of bytes.now) out.new }
 {
     for b in bytes {
-        put_byte(out, *b);
+        put_number(out, *b);
     }
 }
 

@@ -29,8 +29,8 @@ fn put_slots<S: Sink, T: Entry>(out: &mut S, xs: &[Option<T>])
     ensures put { Took S.Sink.puts out.old (flat_map encode (slots T.Entry.written 0 xs.now)) out.new }
     ensures short { length (flat_map encode (slots T.Entry.written 0 xs.now)) ≤ T.Entry.most * length xs.now }
 {
-    for i in 0..xs.len() {
-        if let Some(x) = &xs[i] {
+    for (i, slot) in xs.iter().enumerate() {
+        if let Some(x) = slot {
             put_record(out, &x.record(i as u8));
         }
     }

@@ -27,6 +27,7 @@ impl Sink for Counter {
     }
 }
 
+// Kept: a slice that shrinks as it is filled would hide the bytes in front, of which the promise speaks.
 /// Fills lent bytes from a place on, while there is room.
 #[derive(Drop)]
 pub struct Writer<'a> {

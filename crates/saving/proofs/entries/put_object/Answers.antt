@@ -15,8 +15,8 @@ returns g c =
     let f₁ = field 1 o.kind ++ f₂ in
     took_as P _ _ (ap (λ m. m ∷ 3 ∷ o.number ∷ objects.body o) c.object_map.ensures)
     (took_both P (c.object_map.result ∷ 3 ∷ o.number ∷ []) (objects.body o) c.put.ensures
-    (took_both P (field 1 o.parent) f₁ c.put_byte.ensures
-    (took_both P (field 1 o.kind) f₂ c.put_byte-2.ensures
-    (took_both P (field 1 o.owner) f₃ c.put_byte-3.ensures
-    (took_both P (field 8 o.label) f₄ c.put_u64.ensures
-    (took_both P (field 2 o.groups) f₅ c.put_u16.ensures c.put_rights.ensures))))))
+    (took_both P (field 1 o.parent) f₁ c.put_number.ensures
+    (took_both P (field 1 o.kind) f₂ c.put_number-2.ensures
+    (took_both P (field 1 o.owner) f₃ c.put_number-3.ensures
+    (took_both P (field 8 o.label) f₄ c.put_number-4.ensures
+    (took_both P (field 2 o.groups) f₅ c.put_number-5.ensures c.put_rights.ensures))))))

@@ -1,20 +1,13 @@
-use Rattle.std.proofs.Common.{get_or, take, ap, arith}
-use Rattle.std.proofs.lemmas.List.{take_all}
+use Rattle.std.proofs.Common.{get_or, take, arith}
 use Rattle.records.specs.Records.{field}
 use Rattle.records.specs.Rights.{bytes_of}
-use Rattle.saving.proofs.Taking.{took_none, took_both, took_as}
+use Rattle.saving.proofs.Taking.{took_both, took_as}
 use Rattle.saving.proofs.Walking.{bytes_more}
 use Rattle.saving.proofs.fields.put_bytes.Goals as goal
-
-pub loop-b-init : goal.loop-b-init
-loop-b-init g c = took_none g.S.Sink.puts c.args.out.now
 
 pub loop-b-preserved : goal.loop-b-preserved
 loop-b-preserved g c =
     let bs = c.args.bytes.now in
     let i = c.loop-b.b-index in
     took_as g.S.Sink.puts _ _ (bytes_more bs i (omega arith) (omega arith))
-    (took_both g.S.Sink.puts (bytes_of (take i bs)) (field 1 (get_or bs i 0)) c.loop-b.invariant c.put_byte.ensures)
-
-pub returns : goal.returns
-returns g c = took_as g.S.Sink.puts _ _ (ap bytes_of (take_all c.loop-b.b-index c.args.bytes.now (omega arith))) c.loop-b.invariant
+    (took_both g.S.Sink.puts (bytes_of (take i bs)) (field 1 (get_or bs i 0)) c.loop-b.invariant c.put_number.ensures)

@@ -1,13 +1,10 @@
-use Rattle.std.proofs.Common.{◌≡◌, ◌+◌, ◌*◌, length, take, None, sym, ap, ◌∙◌, mul-one, mul-add, arith, length-append}
-use Rattle.std.proofs.lemmas.List.{take_all, get_or_read}
+use Rattle.std.proofs.Common.{◌+◌, ◌*◌, length, take, None, sym, ap, ◌∙◌, mul-one, mul-add, arith, length-append}
+use Rattle.std.proofs.lemmas.List.{get_or_read}
 use Rattle.records.specs.Records.{encode}
-use Rattle.saving.proofs.Taking.{took_none, took_both, took_as}
+use Rattle.saving.proofs.Taking.{took_both, took_as}
 use Rattle.saving.proofs.Walking.{slot_bytes, some_more, none_more}
 use Rattle.saving.proofs.saves.put_slots.Goals as goal
 use Rattle.saving.proofs.saves.put_slots.Goals.{in-Some, in_default}
-
-pub loop-i-init : goal.loop-i-init
-loop-i-init g c = (took_none g.S.Sink.puts c.args.out.now, omega arith)
 
 pub loop-i-preserved : goal.loop-i-preserved
 loop-i-preserved g c =
@@ -18,7 +15,7 @@ loop-i-preserved g c =
     let h = c.loop-i-test.true in
     let at = sym (get_or_read xs i c.index-xs-i.result h c.index-xs-i.is None) in
     let more = mul-add g.T.Entry.most i 1 ∙ ap (λ k. g.T.Entry.most * i + k) (mul-one g.T.Entry.most) in
-    elim c.match-xs-i.branch [
+    elim c.match-slot.branch [
       | in-Some w ↦
           (let done = slot_bytes r (take i xs) in
           let e = some_more r xs i w.in-Some.x h (at ∙ w.in-Some.is) in
@@ -31,12 +28,3 @@ loop-i-preserved g c =
           (let e = none_more r xs i h (at ∙ w.in_default.is) in
           simp w.out-is (took_as P _ _ e c.loop-i.invariant.0, omega (arith, ap length e, c.loop-i.invariant.1, more)))
     ]
-
-pub returns : goal.returns
-returns g c =
-    let at_end : c.loop-i.i ≡ length c.args.xs.now = omega arith in
-    let e = ap (slot_bytes g.T.Entry.written) (take_all c.loop-i.i c.args.xs.now c.loop-i-test.false) in
-    record {
-      put = took_as g.S.Sink.puts _ _ e c.loop-i.invariant.0;
-      short = omega (arith, ap length e, c.loop-i.invariant.1, ap (λ k. g.T.Entry.most * k) at_end);
-    }

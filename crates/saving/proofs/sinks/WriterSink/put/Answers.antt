@@ -1,5 +1,5 @@
 use Rattle.std.proofs.Common.{length, refl, ap, ◌∙◌, arith}
-use Rattle.saving.proofs.Writing.{wrote_part, wrote_length, written_more, written_full}
+use Rattle.saving.proofs.Writing.{wrote_part, wrote_length, written_more}
 use Rattle.saving.proofs.sinks.WriterSink.put.Goals as goal
 
 pub returns-then-xs-self : goal.returns-then-xs-self
@@ -12,6 +12,3 @@ returns-then-xs-self c a ws h =
       bytes = λ _. e;
       place = λ _. refl;
     })
-
-pub returns-else-from-self : goal.returns-else-from-self
-returns-else-from-self c a ws h = written_more a c.args.self.now c.args.self.now ws c.args.xs.now h (written_full c.args.self.now c.args.xs.now (omega arith))
