@@ -1,5 +1,5 @@
 -- The walk up from an object over the unmixed containers above it. Assumes nothing.
-use Rattle.std.proofs.Common.{◌≡◌, ℕ, suc, ◌≤◌, Bool, ◌⊎◌, length, Some, Decides, Option, unwrap_or, sym, ap, ◌∙◌, subst, inl, inr}
+use Rattle.std.proofs.Common.{◌≡◌, ℕ, suc, ◌≤◌, ◌⊎◌, length, Some, Option, unwrap_or, sym, ap, ◌∙◌, subst, inl, inr}
 use Rattle.std.proofs.lemmas.Bool.{cases_eq}
 use Rattle.labels.specs.Meaning.{Meaning}
 use Rattle.tables.specs.declared.types.Object.{Object}
@@ -7,7 +7,7 @@ use Rattle.tables.specs.declared.types.Tables.{Tables}
 use Rattle.tables.specs.State.{object, object_at, blank_object}
 use Rattle.tables.specs.Ways.{Under, Above}
 use Rattle.tables.proofs.Climb.{WithinSteps, short_way, below_step, climb_found, climb_back, climb_on}
-use Rattle.sound.specs.Nesting.{Unmixed, Holds, HeldAbove, HeldOver, HeldOverAt}
+use Rattle.sound.specs.Nesting.{Unmixed, Holds, HeldAbove}
 
 module _ (m : Meaning) (t : Tables) (l : ℕ) where
   -- a is no unmixed container, or holds l
@@ -42,7 +42,3 @@ module _ (t : Tables) (x : ℕ) (o : Object) (is : Some o ≡ object_at t x) (of
   under_above a b =
       let up : (object t x).parent ≡ o.parent = sym (ap (λ (y : Option Object). (unwrap_or y blank_object).parent) is) in
       elim (below_step b) [ inl e ↦ inl (sym e ∙ up) | inr c ↦ inr (subst (λ (w : ℕ). Under t w a) up c) ]
-
--- what is decided of the label that was found at x is decided of x
-pub found_over : (m : Meaning) (t : Tables) (x : ℕ) (o : Object) → Some o ≡ object_at t x → (r : Bool) → Decides r (HeldOverAt m t x o.label) → Decides r (HeldOver m t x)
-found_over m t x o is r = subst (λ (k : ℕ). Decides r (HeldOverAt m t x k)) (ap (λ (y : Option Object). (unwrap_or y blank_object).label) is)

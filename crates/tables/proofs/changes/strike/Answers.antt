@@ -1,5 +1,5 @@
-use Rattle.std.proofs.Common.{◌≡◌, ℕ, ◌+◌, ◌<◌, List, ◌++◌, map, length, get_or, take, drop, set, Some, None, Option, sym, ap, ◌∙◌, ap₂, append-nil, arith}
-use Rattle.std.proofs.lemmas.List.{take_all, drop_all, get_or_default}
+use Rattle.std.proofs.Common.{◌≡◌, ℕ, ◌+◌, ◌<◌, List, ◌++◌, map, length, get_or, take, drop, set, Some, None, Option, sym, ap, ◌∙◌, arith}
+use Rattle.std.proofs.lemmas.List.{get_or_default}
 use Rattle.std.proofs.lemmas.List.Edits.{map_over_more}
 use Rattle.std.specs.Option.{option_map}
 use Rattle.tables.specs.declared.sets.ObjectSet.{ObjectSet}
@@ -28,11 +28,3 @@ loop-place-preserved c =
           (ap (λ (s : ObjectSet). Some (record { admin = x.admin; groups = x.groups; allowed = s; floor = x.floor; top = x.top })) off ∙ sym (ap f w.in-Some.is)))
       | in_default w ↦ w.users-is ∙ over f xs ys i _ (omega arith) (omega arith) c.loop-place.invariant (w.in_default.is ∙ sym (ap f w.in_default.is))
     ]
-
-pub returns : goal.returns
-returns c =
-    let xs = c.args.users.now in
-    let i = c.loop-place.place-index in
-    let f = option_map (unlisting c.args.o) in
-    c.loop-place.invariant
-    ∙ ap₂ (λ (a b : List (Option User)). map f a ++ b) (take_all i xs (omega arith)) (drop_all i xs (omega arith)) ∙ append-nil _

@@ -1,10 +1,7 @@
 use Rattle.std.proofs.Common.{◌^◌, ◌≤◌, sym, ◌∙◌, arith, pow_mono}
 use Rattle.std.proofs.lemmas.Bool.{both_ways, le-ltb}
-use Rattle.tables.proofs.Bitwise.{bit_test, has_past}
+use Rattle.tables.proofs.Bitwise.{has_past}
 use Rattle.tables.proofs.sets.has_bit.Goals as goal
-
-pub returns-then-k-lt-WIDTH : goal.returns-then-k-lt-WIDTH
-returns-then-k-lt-WIDTH c = record { is = bit_test c.args.set c.args.k; within = λ _. c.if-k-lt-WIDTH.true }
 
 pub returns-else-k-lt-WIDTH : goal.returns-else-k-lt-WIDTH
 returns-else-k-lt-WIDTH c =

@@ -1,16 +1,10 @@
 use Rattle.std.proofs.Common.{◌≡◌, ◌+◌, ◌-◌, length, get_or, Some, None, refl, arith}
 use Rattle.std.proofs.lemmas.Bool.{false≢true}
-use Rattle.tables.proofs.Climb.{short_way, below_off_root, empty_off, climb_found, climb_back, climb_on, no_steps}
+use Rattle.tables.proofs.Climb.{short_way, climb_found, climb_back, climb_on, no_steps}
 use Rattle.tables.proofs.ways.climbs.Goals as goal
 
 pub loop-step-init : goal.loop-step-init
 loop-step-init c = ((λ b. let s = short_way b in (s.0, (let h = s.1 in omega arith))), λ b. b)
-
-pub returns-in_default : goal.returns-in_default
-returns-in_default c = ((λ e. absurd (false≢true e)), λ b. absurd (empty_off c.in_default.ensures (c.loop-step.invariant.0 b).0))
-
-pub returns-then-at-eq0 : goal.returns-then-at-eq0
-returns-then-at-eq0 c = ((λ e. absurd (false≢true e)), λ b. absurd (below_off_root (c.loop-step.invariant.0 b).0 c.if-at-eq0.true))
 
 pub returns-then-object-p : goal.returns-then-object-p
 returns-then-object-p c =

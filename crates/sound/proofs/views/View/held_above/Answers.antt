@@ -1,23 +1,13 @@
 use Rattle.std.proofs.Common.{◌≡◌, ◌+◌, ◌-◌, length, Some, refl, inr, arith}
 use Rattle.std.proofs.lemmas.Bool.{both_ways}
 use Rattle.tables.specs.State.{object_at}
-use Rattle.tables.proofs.Climb.{short_way, below_off_root, empty_off, climb_found, climb_back, no_steps}
+use Rattle.tables.proofs.Climb.{short_way, climb_found, climb_back, no_steps}
 use Rattle.sound.proofs.Every.{yes, no}
 use Rattle.sound.proofs.Walk.{left_on, left_none}
 use Rattle.sound.proofs.views.View.held_above.Goals as goal
 
 pub loop-step-init : goal.loop-step-init
 loop-step-init g c = (c.held_at.ensures.0 c.if-not-held_at.false, (λ a b. let s = short_way b in inr (s.0, (let h = s.1 in omega arith))), λ a b. b)
-
-pub returns-in_default : goal.returns-in_default
-returns-in_default g c =
-    let i = c.loop-step.invariant in
-    yes (left_none (g.S.Scheme.meaning c.args.self.now.scheme.now) c.args.self.now.tables.now c.args.l c.args.p c.loop-step.at _ i.0 i.1 (λ a w. empty_off c.in_default.ensures w.0))
-
-pub returns-then-at-eq0 : goal.returns-then-at-eq0
-returns-then-at-eq0 g c =
-    let i = c.loop-step.invariant in
-    yes (left_none (g.S.Scheme.meaning c.args.self.now.scheme.now) c.args.self.now.tables.now c.args.l c.args.p c.loop-step.at _ i.0 i.1 (λ a w. below_off_root w.0 c.if-at-eq0.true))
 
 pub returns-then-not-held_at-2 : goal.returns-then-not-held_at-2
 returns-then-not-held_at-2 g c =
