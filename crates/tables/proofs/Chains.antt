@@ -1,19 +1,22 @@
 -- What a chain over the numbers below a bound, or over the slots of a table, finds out. Assumes nothing.
-use Rattle.std.proofs.Common.{◌≡◌, ℕ, zero, suc, ◌+◌, ◌<◌, ◌≤◌, Bool, true, false, cond, List, [], ◌∷◌, ◌++◌, length, get_or, is_some, Some, None, Decides, Option, MatchOption, unwrap_or, refl, sym, ap, ◌∙◌, subst, inl, inr, arith}
+use Rattle.std.proofs.Common.{◌≡◌, ℕ, zero, suc, ◌<◌, ◌≤◌, Bool, true, false, cond, List, [], ◌∷◌, length, get_or, is_some, Some, None, Decides, Option, MatchOption, unwrap_or, refl, sym, ap, ◌∙◌, subst, inl, inr, arith}
+use Rattle.std.specs.declared.ops.Range.{Range}
 use Rattle.std.proofs.lemmas.Iterator.{YieldsList, cases_from_all, cases_from_any}
 use Rattle.std.proofs.lemmas.Bool.{true≢false, false≢true, cases_lt}
 use Rattle.std.proofs.lemmas.List.FromFn.{length-range_with_len, get_or-range_with_len}
 use Rattle.std.proofs.lemmas.Iterator.Adapters.{YieldsList-from_flatten}
 use Rattle.std.proofs.lemmas.Iterator.Consumers.{YieldsList-from_shown}
-use Rattle.std.proofs.lemmas.Iterator.{YieldsList-from_slice}
-use Rattle.std.proofs.iter.Yields.{fronts}
+use Rattle.std.proofs.lemmas.Iterator.{YieldsList-from_slice, YieldsList-from_range}
+use Rattle.std.proofs.iter.Yields.{fronts, nat_range_steps}
+use Rattle.std.specs.Array.Iter.{array_into_iter_items}
 use Rattle.std.specs.Bool.{MatchBool}
 use Rattle.std.specs.Fn.{Called}
 use Rattle.std.specs.Iterator.{YieldsThen}
 use Rattle.std.specs.Iterator.Adapters.{option_iter_item, option_iter_done, option_iter_steps, flatten_source, flatten_front, flatten_back, flatten_done, flatten_steps}
-use Rattle.std.specs.List.{AllWithin, HoldsAt, FoldsTo, flat_map, range_with_len}
+use Rattle.std.specs.List.{FoldsTo, flat_map, range_with_len}
 use Rattle.std.specs.Option.{option_to_list}
 use Rattle.std.specs.Slice.Iter.{iter_rest}
+use Rattle.tables.proofs.Puts.{within}
 use denote.Param.Members.{Mut}
 use denote.Ref.{Bor}
 
@@ -25,6 +28,10 @@ decides false m sure off = ((λ e. absurd (false≢true e)), λ p. absurd (off m
 nth_number : (n k : ℕ) → k < n → get_or (range_with_len 0 n) k 0 ≡ k
 nth_number n k h = get_or-range_with_len 0 n k 0 h ∙ omega arith
 
+-- `(0..n)` gives the numbers below n
+pub YieldsList-below : {s : Range ℕ} (n : ℕ) → s ≡ record { start = 0; end = n } → YieldsList nat_range_steps (λ x. x) s (range_with_len 0 n)
+YieldsList-below n e = YieldsList-from_range 0 n n e (omega arith)
+
 -- a chain that gives the numbers below n
 module _ {S A F : Type 0} {steps : S → Option A → S → Type 0} {v : A → ℕ} {g : Mut F (A × Unit {0}) Bool} {s : S} (u : S) (f : F) (n : ℕ) (r : Bool) (P : ℕ → Type 0) where
   -- do all of them have P? Those from n on have it
@@ -35,8 +42,8 @@ module _ {S A F : Type 0} {steps : S → Option A → S → Type 0} {v : A → �
   Decides-all_numbers ran gives has_it has_not past =
       let size : length (range_with_len 0 n) ≡ n = length-range_with_len 0 n in
       decides r (cases_from_all u f r P (λ k. P k → ⊥) ran gives has_it has_not)
-          (λ all k. elim (cases_lt k n) [ inl h ↦ subst P (nth_number n k h) (all k 0 (omega arith) (omega arith)) | inr h ↦ past k h ])
-          (λ some all. some.2 0 (all _))
+      (λ all k. elim (cases_lt k n) [ inl h ↦ subst P (nth_number n k h) (all k 0 (omega arith) (omega arith)) | inr h ↦ past k h ])
+      (λ some all. some.2 0 (all _))
 
   -- has one of them P? None from n on has it
   pub Decides-any_number : (xs : List A) × (o : Option A) × (j : F) × YieldsThen steps s xs o u × FoldsTo (λ p x q. Called g p (x, tt) false q) f xs j × MatchOption o (r ≡ false) (λ x. (r ≡ true) × ((h : F) × Called g j (x, tt) true h))
@@ -46,8 +53,13 @@ module _ {S A F : Type 0} {steps : S → Option A → S → Type 0} {v : A → �
   Decides-any_number ran gives has_it has_not past =
       let size : length (range_with_len 0 n) ≡ n = length-range_with_len 0 n in
       decides r (cases_from_any u f r P (λ k. P k → ⊥) ran gives has_it has_not)
-          (λ some. (_, some.2 0))
-          (λ none some. elim (cases_lt some.0 n) [ inl h ↦ none some.0 0 (omega arith) (omega arith) (subst P (sym (nth_number n some.0 h)) some.1) | inr h ↦ past some.0 h some.1 ])
+      (λ some. (_, some.2 0))
+      (λ none some. elim (cases_lt some.0 n) [ inl h ↦ none some.0 0 (omega arith) (omega arith) (subst P (sym (nth_number n some.0 h)) some.1) | inr h ↦ past some.0 h some.1 ])
+
+-- `array.into_iter()` gives the array's items
+pub YieldsList-from_array : {A : Type 0} {n : ℕ} {s : _} (l : List A) → array_into_iter_items {X = A} {n = n} s ≡ l
+    → YieldsList (λ s r t. MatchOption r ((length (array_into_iter_items {X = A} {n = n} s) ≡ 0) × (t ≡ s)) (λ x. array_into_iter_items s ≡ x ∷ array_into_iter_items t)) (λ x. x) s l
+YieldsList-from_array {s = s} l e = subst (YieldsList _ (λ x. x) s) e (YieldsList-from_shown _ (λ x. x) array_into_iter_items (λ s t p. p.0) (λ s x t p. p) s)
 
 -- what a slot gives, one after another: what it holds, or nothing
 module _ {A : Type 0} where
@@ -111,8 +123,8 @@ module _ {S X A F : Type 0} {steps : S → Option X → S → Type 0} {v : X →
       → Decides r ((k : ℕ) → is_some (get_or l k None) ≡ true → P (unwrap_or (get_or l k None) d))
   Decides-all_slots ran gives has_it has_not =
       decides r (cases_from_all u f r P (λ x. P x → ⊥) ran gives has_it has_not)
-          (λ all k full. let a = among d l k full in subst P a.is (all a.at d (omega arith) a.near))
-          (λ some all. let a = slot_of d l some.0 some.1 in some.2 d (subst P (sym a.is) (all a.number a.full)))
+      (λ all k full. let a = among d l k full in subst P a.is (all a.at d (omega arith) a.near))
+      (λ some all. let a = slot_of d l some.0 some.1 in some.2 d (subst P (sym a.is) (all a.number a.full)))
 
   -- has something that they hold P?
   pub Decides-any_slot : (xs : List X) × (o : Option X) × (j : F) × YieldsThen steps s xs o u × FoldsTo (λ p x q. Called g p (x, tt) false q) f xs j × MatchOption o (r ≡ false) (λ x. (r ≡ true) × ((h : F) × Called g j (x, tt) true h))
@@ -121,5 +133,9 @@ module _ {S X A F : Type 0} {steps : S → Option X → S → Type 0} {v : X →
       → Decides r ((k : ℕ) × (is_some (get_or l k None) ≡ true) × P (unwrap_or (get_or l k None) d))
   Decides-any_slot ran gives has_it has_not =
       decides r (cases_from_any u f r P (λ x. P x → ⊥) ran gives has_it has_not)
-          (λ some. let a = slot_of d l some.0 some.1 in (a.number, a.full, subst P a.is (some.2 d)))
-          (λ none some. let a = among d l some.0 some.1 in none a.at d (omega arith) a.near (subst P (sym a.is) some.2))
+      (λ some. let a = slot_of d l some.0 some.1 in (a.number, a.full, subst P a.is (some.2 d)))
+      (λ none some. let a = among d l some.0 some.1 in none a.at d (omega arith) a.near (subst P (sym a.is) some.2))
+
+-- past the end of a table no slot holds something
+pub empty_past : {A : Type 0} (l : List (Option A)) (n k : ℕ) → length l ≤ n → n ≤ k → is_some (get_or l k None) ≡ true → ⊥
+empty_past l n k end far full = let near : k < length l = within l k full in omega arith
