@@ -20,6 +20,7 @@ pub(crate) fn label_of(t: &Tables, o: u8) -> u64
 fn holds_inside<S: Scheme>(v: &View<S>, o: u8, label: u64) -> bool
     ensures { Decides result (Unmixed v.now.tables.now o → HoldsUnder (S.Scheme.meaning v.now.scheme.now) v.now.tables.now o label) }
 {
+    // Kept: the guard for mixed is to be one of a match over the kind; `is_none_or` around that match was tried, and its proof didn't close.
     let Some(x) = v.tables.object(o) else {
         return true;
     };
