@@ -1,4 +1,4 @@
-use Rattle.std.proofs.Common.{◌≡◌, ℕ, ◌<◌, List, ◌++◌, None, get_or, length, string_bytes, sym, ap, ◌∙◌, rules}
+use Rattle.std.proofs.Common.{◌≡◌, ℕ, ◌<◌, List, None, get_or, length, string_bytes, sym, ap, ◌∙◌, rules}
 use Rattle.std.proofs.lemmas.List.{get_or_default}
 use Rattle.listing.specs.Listed.{told}
 use Rattle.listing.proofs.Each.{started, stepped, passed}
@@ -17,7 +17,7 @@ loop-number-preserved g c =
     elim c.match-slot.branch [
       | in-Some+in_ok-line+in_ok-push_str w ↦
           stepped c.args.title.now f k (string_bytes c.loop-number.out) (string_bytes c.match-slot.out) (string_bytes w.in_ok-line.field-0) c.loop-number.invariant
-          (ap string_bytes w.out-is ∙ w.in_ok-push_str.ensures.bytes ∙ ap (λ (bs : List ℕ). string_bytes c.loop-number.out ++ bs) w.as_str.ensures.value)
+          (search rules)
           (ap (told (g.T.Entry.line_of k)) (read ∙ w.in-Some.is) ∙ sym w.in_ok-line.ensures)
       | in_default w ↦
           ap string_bytes w.out-is ∙ passed c.args.title.now f k (string_bytes c.loop-number.out) c.loop-number.invariant (ap (told (g.T.Entry.line_of k)) (read ∙ w.in_default.is))
