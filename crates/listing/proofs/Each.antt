@@ -1,7 +1,7 @@
 -- The texts of the numbers below n, one more at a time.
 use Rattle.std.specs.List.{repeat}
-use Rattle.std.proofs.Common.{◌≡◌, ℕ, zero, suc, ◌+◌, List, [], ◌++◌, Some, None, Option, sym, refl, ap, ◌∙◌, append_assoc, append-nil, add-one}
-use Rattle.listing.specs.Listed.{each, told}
+use Rattle.std.proofs.Common.{◌≡◌, ℕ, zero, suc, ◌+◌, List, [], ◌++◌, sym, refl, ap, ◌∙◌, append_assoc, append-nil, add-one}
+use Rattle.listing.specs.Listed.{each}
 
 pub each_none : (f : ℕ → List ℕ) → each f 0 ≡ []
 unfolding each
@@ -23,13 +23,6 @@ stepped a f k before after text p q r =
 -- nothing is said of a number
 pub passed : (a : List ℕ) (f : ℕ → List ℕ) (k : ℕ) (out : List ℕ) → out ≡ a ++ each f k → f k ≡ [] → out ≡ a ++ each f (k + 1)
 passed a f k out p r = stepped a f k out out [] p (sym (append-nil out)) r
-
--- what is in a slot is said, or nothing of an empty one
-pub said : {A : Type 0} (f : A → List ℕ) (head before after : List ℕ) (slot : Option A) (x : A) → slot ≡ Some x → before ≡ head → after ≡ before ++ f x → after ≡ head ++ told f slot
-said f head before after slot x is p q = q ∙ ap (λ (bs : List ℕ). bs ++ f x) p ∙ sym (ap (λ s. head ++ told f s) is)
-
-pub unsaid : {A : Type 0} (f : A → List ℕ) (head out : List ℕ) (slot : Option A) → slot ≡ None → out ≡ head → out ≡ head ++ told f slot
-unsaid f head out slot is p = p ∙ sym (append-nil head) ∙ sym (ap (λ s. head ++ told f s) is)
 
 -- one text again and again
 each_around : (xs : List ℕ) (n : ℕ) → xs ++ each (λ _. xs) n ≡ each (λ _. xs) n ++ xs

@@ -1,17 +1,9 @@
 -- Words behind a text.
-use Rattle.std.proofs.Common.{◌≡◌, ℕ, suc, ◌+◌, ◌<◌, get_or, drop, drop-cons, add-one, Bool, true, false, cond, List, [], ◌∷◌, ◌++◌, length, codes, decimal, sym, refl, ap, ◌∙◌, append_assoc, arith, ne_eqb}
+use Rattle.std.proofs.Common.{◌≡◌, ℕ, suc, ◌+◌, ◌<◌, get_or, drop, drop-cons, add-one, Bool, true, false, cond, List, [], ◌∷◌, ◌++◌, length, codes, decimal, sym, refl, ap, ◌∙◌, arith}
 use Rattle.tables.specs.declared.sets.Right.{Right}
 use Rattle.tables.specs.declared.sets.Right.TheVariants as right
 use Rattle.tables.specs.Sets.{has}
-use Rattle.listing.specs.Listed.{each, member_text, members_text, comma, naming, or_none}
-
-pub comma_first : (xs w : List ℕ) → length xs ≡ 0 → xs ++ w ≡ comma xs w
-comma_first [] w e = refl
-comma_first (x ∷ xs) w e = absurd (omega arith)
-
-pub comma_more : (xs w : List ℕ) → (length xs ≡ 0 → ⊥) → (xs ++ codes ", ") ++ w ≡ comma xs w
-comma_more [] w ne = absurd (ne refl)
-comma_more (x ∷ xs) w ne = append_assoc (x ∷ xs) (codes ", ") w
+use Rattle.listing.specs.Listed.{member_text, naming, or_none}
 
 pub none_said : (xs : List ℕ) → length xs ≡ 0 → xs ++ codes "no rights" ≡ or_none xs
 none_said [] e = refl
@@ -27,11 +19,6 @@ member_said set k e t = ap (λ (z : Bool). cond z (codes " " ++ decimal k) []) (
 
 pub member_passed : (set k : ℕ) {b : Bool} → b ≡ has set k → b ≡ false → member_text set k ≡ []
 member_passed set k e f = ap (λ (z : Bool). cond z (codes " " ++ decimal k) []) (sym e ∙ f)
-
--- the whole set is said
-pub members_said : (title out : List ℕ) (set k : ℕ) → (set ≡ 0 → ⊥) → k ≡ 64 → out ≡ title ++ each (member_text set) k → out ≡ members_text title set
-members_said title out set k some all is =
-    is ∙ ap (λ (n : ℕ). title ++ each (member_text set) n) all ∙ sym (ap (λ (b : Bool). cond b [] (title ++ each (member_text set) 64)) (ne_eqb set 0 some))
 
 abbrev pub rights : List Right
 rights = right.Read ∷ right.Write ∷ right.Create ∷ right.Delete ∷ right.ChangeRights ∷ right.Execute ∷ right.WriteAttributes ∷ []

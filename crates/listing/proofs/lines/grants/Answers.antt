@@ -1,6 +1,6 @@
-use Rattle.std.proofs.Common.{◌≡◌, ℕ, Bool, cond, List, [], ◌++◌, get_or, string_bytes, codes, decimal, sym, ap, ◌∙◌, arith, eq-eqb, ne_eqb}
+use Rattle.std.proofs.Common.{◌≡◌, ℕ, Bool, cond, List, [], ◌++◌, get_or, string_bytes, codes, decimal, sym, ap, ◌∙◌, eq-eqb, ne_eqb}
 use Rattle.tables.specs.State.{no_rights}
-use Rattle.listing.specs.Listed.{each, grant_text, text_of_rights}
+use Rattle.listing.specs.Listed.{grant_text, text_of_rights}
 use Rattle.listing.proofs.Each.{each_none, stepped, passed}
 use Rattle.listing.proofs.lines.grants.Goals as goal
 use Rattle.listing.proofs.lines.grants.Goals.{then-set-ne0+in_ok-rights+in_ok-write, else-set-ne0}
@@ -24,8 +24,3 @@ loop-user-preserved c =
           (ap said (ne_eqb n 0 w.if-set-ne0.true) ∙ ap whole (sym r))
       | else-set-ne0 w ↦ ap string_bytes w.out-is ∙ passed [] (grant_text sets) k (string_bytes c.loop-user.out) c.loop-user.invariant (ap said (eq-eqb n 0 w.if-set-ne0.false))
     ]
-
-pub returns : goal.returns
-returns c =
-    let all : c.loop-user.user-counter ≡ 16 = omega arith in
-    c.loop-user.invariant ∙ ap (each (grant_text c.args.sets.now)) all

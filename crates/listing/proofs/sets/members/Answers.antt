@@ -1,7 +1,7 @@
-use Rattle.std.proofs.Common.{◌≡◌, ℕ, List, ◌++◌, string_bytes, codes, decimal, ap, ◌∙◌, arith}
+use Rattle.std.proofs.Common.{ℕ, List, ◌++◌, string_bytes, codes, decimal, ap, ◌∙◌}
 use Rattle.listing.specs.Listed.{member_text}
 use Rattle.listing.proofs.Each.{started, stepped, passed}
-use Rattle.listing.proofs.Naming.{member_said, member_passed, members_said}
+use Rattle.listing.proofs.Naming.{member_said, member_passed}
 use Rattle.listing.proofs.sets.members.Goals as goal
 use Rattle.listing.proofs.sets.members.Goals.{then-contains+in_ok-write, else-contains}
 
@@ -21,8 +21,3 @@ loop-k-preserved c =
           ap string_bytes w.out-is
           ∙ passed c.args.title.now (member_text c.args.set.0) c.loop-k.k-counter (string_bytes c.loop-k.out) c.loop-k.invariant (member_passed c.args.set.0 c.loop-k.k-counter c.contains.ensures w.if-contains.false)
     ]
-
-pub returns : goal.returns
-returns c =
-    let all : c.loop-k.k-counter ≡ 64 = omega arith in
-    members_said c.args.title.now (string_bytes c.loop-k.out) c.args.set.0 c.loop-k.k-counter c.if-set-eq0.false all c.loop-k.invariant

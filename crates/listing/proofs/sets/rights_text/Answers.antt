@@ -4,9 +4,6 @@ use Rattle.listing.proofs.Naming.{named, rights, named_next, named_all, none_sai
 use Rattle.listing.proofs.sets.rights_text.Goals as goal
 use Rattle.listing.proofs.sets.rights_text.Goals.{then-is_empty+in_ok-push_str, else-is_empty}
 
-pub loop-right-init : goal.loop-right-init
-loop-right-init c = ap (named c.args.set.0 rights) c.new-out.ensures.bytes
-
 pub loop-right-preserved : goal.loop-right-preserved
 loop-right-preserved c = named_next c.args.set.0 c.loop-right.right-index rights _ (string_bytes c.loop-right.out) (string_bytes c.name.new.out) (named c.args.set.0 rights []) (omega arith) c.in_ok-name.ensures c.loop-right.invariant
 

@@ -1,4 +1,4 @@
-use Rattle.std.proofs.Common.{◌≡◌, ℕ, ◌+◌, ◌-◌, ◌<◌, List, ◌++◌, string_bytes, sym, refl, ap, ◌∙◌, arith}
+use Rattle.std.proofs.Common.{◌≡◌, ℕ, ◌+◌, ◌-◌, ◌<◌, List, ◌++◌, string_bytes, sym, refl, ap, ◌∙◌, arith, rules}
 use Rattle.std.specs.Option.{option_map}
 use Rattle.tables.specs.declared.types.Object.{Object}
 use Rattle.listing.specs.Listed.{each, line_of_object, under, text_of_tree}
@@ -25,7 +25,7 @@ loop-o-preserved t c =
           let text = text_of_tree c.args.t.now (64 - (c.args.depth + 1)) (c.args.depth + 1) o w.in-Some.child.now in
           let child = sym c.child_of.ensures ∙ ap (option_map (λ x. x.now)) w.in-Some.is in
           stepped line f o (string_bytes c.loop-o.out) (string_bytes c.match-child_of.out) text c.loop-o.invariant
-          (ap string_bytes w.out-is ∙ w.in_ok-push_str.ensures.bytes ∙ ap (λ (bs : List ℕ). string_bytes c.loop-o.out ++ bs) (w.as_str.ensures.value ∙ w.in_ok-tree_text.ensures))
+          (search rules)
           (under_some c.args.t.now c.args.number g o w.in-Some.child.now past child
           ∙ tree_next c.args.t.now c.args.depth o w.in-Some.child.now c.if-depth.true)
       | in_default w ↦

@@ -1,6 +1,6 @@
-use Rattle.std.proofs.Common.{◌≡◌, ℕ, ◌<◌, List, ◌++◌, None, get_or, length, string_bytes, sym, ap, ◌∙◌, arith, rules}
+use Rattle.std.proofs.Common.{◌≡◌, ℕ, ◌<◌, List, None, get_or, length, string_bytes, sym, ap, ◌∙◌, rules}
 use Rattle.std.proofs.lemmas.List.{get_or_default}
-use Rattle.listing.specs.Listed.{each, told}
+use Rattle.listing.specs.Listed.{told}
 use Rattle.listing.proofs.Each.{started, stepped, passed}
 use Rattle.listing.proofs.tables_text.table_text.Goals as goal
 use Rattle.listing.proofs.tables_text.table_text.Goals.{in-Some+in_ok-line+in_ok-push_str, in_default}
@@ -17,13 +17,8 @@ loop-number-preserved g c =
     elim c.match-slot.branch [
       | in-Some+in_ok-line+in_ok-push_str w ↦
           stepped c.args.title.now f k (string_bytes c.loop-number.out) (string_bytes c.match-slot.out) (string_bytes w.in_ok-line.field-0) c.loop-number.invariant
-          (ap string_bytes w.out-is ∙ w.in_ok-push_str.ensures.bytes ∙ ap (λ (bs : List ℕ). string_bytes c.loop-number.out ++ bs) w.as_str.ensures.value)
+          (search rules)
           (ap (told (g.T.Entry.line_of k)) (read ∙ w.in-Some.is) ∙ sym w.in_ok-line.ensures)
       | in_default w ↦
           ap string_bytes w.out-is ∙ passed c.args.title.now f k (string_bytes c.loop-number.out) c.loop-number.invariant (ap (told (g.T.Entry.line_of k)) (read ∙ w.in_default.is))
     ]
-
-pub returns : goal.returns
-returns g c =
-    let all : c.loop-number.number ≡ g.row.N = omega arith in
-    c.loop-number.invariant ∙ ap (λ (k : ℕ). c.args.title.now ++ each (λ n. told (g.T.Entry.line_of n) (get_or c.args.slots.now n None)) k) all
