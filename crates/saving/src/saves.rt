@@ -14,6 +14,7 @@ use tables::types::Tables;
 #[derive(Clone, Copy, Debug, PartialEq)]
 pub struct NoRoom;
 
+// Kept: each refusal has its number by a method of this name, and the type is what the code asks.
 impl NoRoom {
     /// The refusal's number.
     pub fn number(&self) -> u8

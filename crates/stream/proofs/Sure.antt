@@ -21,10 +21,6 @@ pub read_back : (a b : Cursor) (r : Result Call CallFault) → MatchResult r (λ
 read_back a b (Ok y) h x rest f e = ap (λ (z : Call). Ok z) (unique_call y x (left b) rest h.0 f (sym h.1.split ∙ e)).0
 read_back a b (Err w) h x rest f e = absurd (no_fault a.place (left a) w x rest f e h)
 
--- a call that was written leaves no empty stream
-pub none_written : (bs : List ℕ) (x : Call) (rest : List ℕ) → bs ≡ [] → bs ≡ encode x ++ rest → ⊥
-none_written bs x rest none e = omega (arith, ap length none, ap length e ∙ length-append (encode x) rest)
-
 same_fault : (p : ℕ) (bs : List ℕ) (f g : CallFault) → Faulty p bs f → Faulty p bs g → f ≡ g
 same_fault p bs (Bytes e) (Bytes d) v w = (λ i. Bytes (record { first = (v.0 ∙ sym w.0) i }))
 same_fault p bs (Bytes e) (Form q) v w = absurd (w.1 v.1)

@@ -21,6 +21,7 @@ impl From<CursorFault> for CallFault {
 }
 
 impl CallFault {
+    // Kept: each refusal has its number by a method of this name, and the type is what the code asks.
     /// The number of this fault: 11 for a call that is cut short, 12 for bad form.
     pub fn number(&self) -> u8
         ensures { result ≡ fault_number self.now }

@@ -1,12 +1,9 @@
 use Rattle.std.proofs.Common.{length, [], ◌∷◌, ◌++◌, sym, arith}
-use Rattle.std.proofs.lemmas.Bool.{eqb-true, eqb-false}
+use Rattle.std.proofs.lemmas.Bool.{eqb-false}
 use Rattle.byte_cursor.specs.Bytes.{left}
-use Rattle.roll.proofs.Loads.{sofar_more, sofar_order, sofar_done, shorter}
+use Rattle.roll.proofs.Loads.{sofar_more, sofar_order}
 use Rattle.roll.proofs.Order.{placed, small, above, behind}
 use Rattle.roll.proofs.reading.read_tables.Goals as goal
-
-pub loop-c-smaller : goal.loop-c-smaller
-loop-c-smaller c = shorter c.in_ok-record.record c.in_ok-record.ensures.1
 
 pub returns-then-le : goal.returns-then-le
 returns-then-le c =
@@ -22,6 +19,3 @@ loop-c-preserved c =
     let t = c.in_ok-record.ensures in
     let lt = above x t.0 c.from.ensures c.loop-c.last c.loop-c.invariant.2 (sym c.if-le.ensures) in
     (c.loop-c.invariant.0 ++ x ∷ [], simp (placed x t.0 c.from.ensures, c.put.ensures) (sofar_more c.loop-c.invariant.1 x t.0 t.1 lt), small x t.0 c.from.ensures)
-
-pub returns : goal.returns
-returns c = sofar_done c.loop-c.invariant.1 (eqb-true _ 0 (sym c.loop-c-test.ensures))
