@@ -2,7 +2,8 @@
 """Counts the places in src/ that the design pass looks at: python3 tools/places.py COMMIT [POINT] [-l]
 
 Each point has a few patterns, one for each old form; a piece of code that fits one is a place. Comments are not looked at, and contracts only where a
-point is about them. A place counts as kept if a line that begins `// Kept:` stands in its function or type, or above the impl that it is in.
+point is about them. A place counts as kept if a line that begins `// Kept:` stands in its function or type, or above the impl that it is in, or one that begins
+`// Kept, in this file:` in its file.
 -l lists the places."""
 import re
 import subprocess
@@ -12,8 +13,8 @@ POINTS = {
     1: [
         (r"let (Some|Ok)\(.*\) = .* else \{\n\s*return (Err\(|None)", "an early return that is a `?`"),
         (r"^\s*None => (true|false|0|None|\(0, 0\)|\w+\(0\)),?$|Err\(_\) => (None|false)", "a default by hand"),
-        (r"\bkind: u8\b|\bkind (>|==) 2\b", "a number for a kind"),
-        (r"fn (number|rank|number_of)\(.*\) -> u(8|16)\b", "a number for a refusal or an order"),
+        (r"\bkind: u8\b(?!:)|\bkind (>|==) 2\b", "a number for a kind"),
+        (r"fn (number|rank|number_of)\(.*\) -> u(8|16)\n.*\n\s*\{\n\s*(match|15)", "a number for a refusal or an order"),
         (r'return "";|let mut last = 0;', "a value that stands for nothing"),
         (r"pub enum End\b", "an own enum of Result's shape"),
     ],
@@ -28,24 +29,24 @@ POINTS = {
         (r"fn read_roll\(", "the same thing in five programs"),
         (r"\} = t\.|if let Some\(\w+\) = t\.(user|group)\(number\)", "one for each table"),
         (r"fn (house|old)_(guard|transcript)\(|fn (secrecy|trust)_label\(", "one for each label"),
-        (r"Container if !\w+(\.tables)?\.has_right\(s\.user, o, Right::WriteAttributes\)", "one for each mark"),
-        (r'"\{a\},\{b\};\{c\},\{d\}"|"(bad|roll) \{number\} \{place\}', "the same print"),
-        (r"SchemeName::(House|Old), \w+(, \w+)?\) =>", "one for each label"),
+        (r"Container if !\w+\.has_right\(s\.user, o, Right::WriteAttributes\) =>", "one for each mark"),
+        (r'let \(a, b\) = \(p\.|"(bad|roll) \{number\} \{place\}', "the same print"),
+        (r"Question::(Label|Flows|Holds)\(SchemeName::(House|Old),", "one for each label"),
     ],
     3: [
         (r"\bfor \w+ in .*\.\.", "a loop over numbers"),
         (r"\bwhile\b", "a loop that counts or cuts by hand"),
-        (r"for \(\w+, \w+\) in .*enumerate\(\) \{\n\s*if", "a search by hand"),
+        (r"for \(\w+, \w+\) in .*enumerate\(\) \{\n\s*if .*\{\n\s*return", "a search by hand"),
     ],
     4: [
-        (r"fn (of\(n: u64\)|number\(&self\)|word\(&self\)|reason\(&self\)|number_of\()", "a conversion by hand"),
+        (r"fn (of\(n: u64\)|word\(&self\)|reason\(&self\)|number_of\()|fn number\(&self\) -> u(8|64)\n.*\n\s*\{\n\s*(match|15|let)", "a conversion by hand"),
         (r"fn bit\(self\) -> u8\n.*\n\s*\{\n\s*match", "a conversion by hand"),
-        (r"fn (kind_from|table_kind|kind_number|table_rights|table_user|table_role|table_object|rights_bytes)\(", "a conversion by hand"),
+        (r"fn (kind_from|table_kind|kind_number|table_user|table_role|table_object)\(", "a conversion by hand"),
         (r"fn rank\(", "an order by hand"),
         (r"fn (kind_word|right_word|record_word|fault_word|clause_letter|clause_text)\(", "printing by hand"),
         (r"fn read_(scheme|ask|parts|part|two)\(", "a conversion from text by hand"),
         (r"matches!\(", "an equality by hand"),
-        (r"impl Display|impl fmt::Display for (Label|Refusal)\b", "a type that is there to be printed"),
+        (r"impl fmt::Display for (Label|Refusal)\b", "a type that is there to be printed"),
     ],
     5: [
         (r"scheme: &S, t: &Tables|^\s*scheme: &S,$", "a scheme and its tables, side by side"),
@@ -99,7 +100,8 @@ def kept(lines, at):
     while outer > 0 and not lines[outer].startswith(("impl", "pub trait", "trait")) and lines[first].startswith(" "):
         outer -= 1
     said += list(above(lines, outer))
-    return any(l.strip().startswith("// Kept:") for l in said)
+    header = [l for l in lines if l.startswith("// Kept, in this file:")]
+    return bool(header) or any(l.strip().startswith("// Kept:") for l in said)
 
 
 def places(commit, point):

@@ -35,6 +35,7 @@ impl fmt::Display for Reply {
 
 impl Fault {
     /// What is not understood, in words.
+    // Kept: `Display` stands below and prints it; the words alone are lent, and take no memory.
     pub fn reason(&self) -> &'static str
         ensures { result.now ≡ fault_text self.now }
     {

@@ -19,6 +19,7 @@ const RIGHTS: [Right; 7] = [
 ];
 
 /// The numbers in a set, behind a title: nothing where the set is empty.
+// Kept: a set is asked number by number, and has no list of its members; the number is what is printed.
 pub(crate) fn members(heap: Global, title: &str, set: ObjectSet) -> Result<String, AllocError>
     ensures { IfOk result (λ s. string_bytes s ≡ members_text title.now set.0) }
 {

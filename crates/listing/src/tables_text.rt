@@ -44,6 +44,7 @@ fn tree_text(
 {
     let mut out = object_line(heap, depth, number, object)?;
     if depth < OBJECTS as u8 {
+        // Kept: the number is what is printed and asked on; from 1, since the root is under nothing.
         for o in 1..OBJECTS as u8 {
             if let Some(child) = child_of(t, number, o) {
                 out.push_str(tree_text(heap, t, depth + 1, o, child)?.as_str())?;

@@ -17,6 +17,7 @@ pub fn house_guard() -> Guard<House>
     Guard::new(house_label())
 }
 
+// Kept: as above.
 /// A blank guard at the old label.
 pub fn old_guard() -> Guard<Old>
     ensures scheme { old_of result.scheme ≡ old }

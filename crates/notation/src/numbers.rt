@@ -24,6 +24,7 @@ pub fn read_number(text: &str) -> Option<u64>
 }
 
 /// A number that has 16 bits.
+// Kept: `FromStr` for a number is std's, and reads texts that no label has.
 fn read_part(text: &str) -> Option<u16>
     ensures { MatchOption result ((n : ℕ) → n < 65536 → text.now ≢ decimal n) (λ n. (n < 65536) × (text.now ≡ decimal n)) }
 {
@@ -47,6 +48,7 @@ pub fn read_parts(text: &str) -> Option<Parts>
 }
 
 /// The two numbers that are written so, as `a,b`.
+// Kept: as above, of two numbers.
 fn read_two(text: &str) -> Option<(u16, u16)>
     ensures { MatchOption result ((m n : ℕ) → m < 65536 → n < 65536 → text.now ≢ decimal m ++ (44 ∷ decimal n)) (λ p. (p.0 < 65536) × (p.1 < 65536) × (text.now ≡ decimal p.0 ++ (44 ∷ decimal p.1))) }
 {

@@ -37,6 +37,7 @@ pub fn read_label(scheme: SchemeName, word: &str) -> Option<u64>
     if let Some(n) = read_number(word) {
         return Some(n);
     }
+    // Kept: two schemes, a closed set; only one has parts.
     match scheme {
         SchemeName::House => read_parts(word).map(u64::from),
         SchemeName::Old => None,

@@ -20,6 +20,7 @@ pub struct GroupRecord {
     pub role: u8,
 }
 
+// Kept: kind and parent are the bytes that stand in a roll: `object_map` takes every record, and a narrower type would ask more of who calls.
 #[derive(Clone, Copy, Debug, PartialEq)]
 pub struct ObjectRecord {
     pub number: u8,

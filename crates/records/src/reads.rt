@@ -181,6 +181,7 @@ pub fn read_record(c: &mut Cursor) -> Result<Record, RecordFault>
     c.begin();
     let [map, kind, number] = *c.array::<3>()?;
     let head = Head { map, number };
+    // Kept: three kinds of records, a closed set; each arm has the room of its own table.
     match kind {
         Record::USER if number < UserRecord::ROOM && map < UserRecord::MAPS => {
             let u = user(c, head)?;

@@ -27,6 +27,7 @@ pub(crate) fn table_user(u: &UserRecord) -> User
     }
 }
 
+// Kept: as above.
 /// The role that a record describes.
 pub(crate) fn table_role(g: &GroupRecord) -> Rights
     ensures { result ≡ role_of g.now }
@@ -34,6 +35,7 @@ pub(crate) fn table_role(g: &GroupRecord) -> Rights
     Rights(g.role)
 }
 
+// Kept: as above.
 /// The object that a record describes.
 pub(crate) fn table_object(o: &ObjectRecord) -> Object
     ensures { result ≡ object_of o.now }

@@ -12,6 +12,7 @@ use tables::sets::Right;
 use tables::types::{Kind, OBJECTS};
 
 /// A subject makes an object.
+// Kept: the kind is the byte of the call, which the answer is about; the first lines read it.
 pub(crate) fn create<S: Scheme>(
     v: &View<S>,
     subject: u8,

@@ -12,6 +12,8 @@ use records::{GroupRecord, ObjectRecord, Record, UserRecord, group_map, object_m
 use tables::sets::Rights;
 use tables::types::{Object, User};
 
+// Kept, in this file: each function says of its own value what it is in bytes. A trait over the values would say `Took` once and then define those
+// bytes, in the same words, for each of them.
 /// A group's record.
 fn put_group<S: Sink>(out: &mut S, g: &GroupRecord)
     ensures { Took S.Sink.puts out.old (encode (record_of.Group g.now)) out.new }

@@ -7,6 +7,8 @@ use crate::sinks::Sink;
 use byte_cursor::Little;
 use records::marks_of;
 
+// Kept, in this file: each function says of its own value what it is in bytes. A trait over the values would say `Took` once and then define those
+// bytes, in the same words, for each of them.
 // Kept: not a method of `Sink`, as a trait's method may have no const parameter.
 /// A field of a number.
 pub(crate) fn put_number<S: Sink, T: Little<N>, const N: usize>(out: &mut S, number: T)

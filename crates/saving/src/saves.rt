@@ -10,6 +10,8 @@ use crate::entries::{Entry, put_record};
 use crate::sinks::{Counter, Sink, Writer};
 use tables::types::Tables;
 
+// Kept, in this file: each function says of its own value what it is in bytes. A trait over the values would say `Took` once and then define those
+// bytes, in the same words, for each of them.
 /// The buffer is too short.
 #[derive(Clone, Copy, Debug, PartialEq)]
 pub struct NoRoom;

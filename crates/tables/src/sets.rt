@@ -56,6 +56,7 @@ impl Rights {
     }
 }
 
+// Kept: as above.
 impl GroupSet {
     /// Is group `g` in this set? A number past the groups is in none.
     pub fn contains(self, g: u8) -> bool
@@ -65,6 +66,7 @@ impl GroupSet {
     }
 }
 
+// Kept: as above.
 impl ObjectSet {
     /// Is object `o` in this set? A number past the objects is in none.
     pub fn contains(self, o: u8) -> bool

@@ -40,6 +40,7 @@ pub struct Subject {
 }
 
 /// An object, with a set of rights for each user.
+// Kept: a parent is the number of a slot: rolls and calls name objects so, and the tables are fixed memory.
 #[derive(Clone, Copy)]
 pub struct Object {
     pub kind: Kind,
@@ -52,6 +53,7 @@ pub struct Object {
 }
 
 /// The tables: a slot for each number, empty where there is nothing. A group's slot holds its role.
+// Kept: slots by number and not maps: the guard allocates nothing, a number is what a roll and a call say, and finding a slot takes one step.
 #[derive(Clone, Copy)]
 pub struct Tables {
     pub users: [Option<User>; USERS],

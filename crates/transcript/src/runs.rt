@@ -50,6 +50,7 @@ pub fn house_transcript(heap: Global, roll: &[u8], calls: &[u8]) -> Result<Strin
     transcript(heap, house_label(), roll, calls)
 }
 
+// Kept: as above.
 /// The same at the old label.
 pub fn old_transcript(heap: Global, roll: &[u8], calls: &[u8]) -> Result<String, AllocError>
     ensures { IfOk result (λ s. Printed old roll.now calls.now (string_bytes s)) }

@@ -29,6 +29,7 @@ fn load_tables<S: Scheme>(scheme: &S, bytes: &[u8]) -> Result<Tables, RollFault>
     }
 }
 
+// Kept: blank or sound, and the scheme that stays, are said of `new` and `load` each; see the type `Guard` for why no type says it.
 impl<S: Scheme> Guard<S> {
     /// A blank guard.
     pub fn new(scheme: S) -> Guard<S>
