@@ -7,12 +7,12 @@ use monitor::RollFault;
 use std::fmt;
 
 /// Why a roll is refused.
-// Kept: a type that is there to be printed, since `Display` for the fault itself would have to stand in its own crate, which prints nothing.
 #[derive(Clone, Copy)]
 pub struct Refusal {
     pub fault: RollFault,
 }
 
+// Kept: a type that is there to be printed, since `Display` for the fault itself would have to stand in its own crate, which prints nothing.
 impl fmt::Display for Refusal {
     ghost output = { λ e. Text (refusal_text e.fault) };
 

@@ -23,6 +23,7 @@ fn number_of(answer: &Result<(), Refusal>) -> u8
 }
 
 /// Answers call after call, up to the end of the stream or its first bad call.
+// Kept: the lines on what is kept and on the scheme stand here and below.
 fn answer_all<S: Scheme>(guard: &mut Guard<S>, calls: &[u8], answers: &mut [u8]) -> Outcome
     requires { length calls.now / 2 ≤ length answers.old }
     ensures ran { Stretch (S.Scheme.meaning guard.old.scheme) guard.old.tables calls.now result.answered result.end answers.old answers.new guard.new.tables }
@@ -54,7 +55,7 @@ fn answer_all<S: Scheme>(guard: &mut Guard<S>, calls: &[u8], answers: &mut [u8])
     }
 }
 
-// Kept: that the scheme stays, and what is kept stays kept, are a line each here and in the function above, which the roll does not concern.
+// Kept: that the scheme stays, and what is kept stays kept, are a line each, here and in the function above; see `Guard` for why no type says them.
 /// Loads a roll, answers the calls of a stream one after another, up to its end or its first bad call, and writes the answers into the front of a
 /// buffer, a byte each. A buffer with less than a byte for every two of the stream is refused before anything is done.
 pub fn run<S: Scheme>(
