@@ -28,6 +28,7 @@ pub trait Little<const N: usize>: Copy + PartialEq {
     ghost few: { N ≤ 8 };
 }
 
+// Kept: the three impls differ in the type alone, but std has no trait over these types' bytes, and no macro of our own may write them.
 impl Little<1> for u8 {
     const ZERO: u8 = 0;
 
