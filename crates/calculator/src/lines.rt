@@ -40,8 +40,5 @@ impl<'a> Iterator for Lines<'a> {
 fn first_line(text: &[u8]) -> (&[u8], &[u8])
     ensures { 0 < length text.now → lines_of text.now ≡ result.0.now ∷ lines_of result.1.now }
 {
-    match split_once(text, b'\n') {
-        Some((line, rest)) => (line, rest),
-        None => (text, b""),
-    }
+    split_once(text, b'\n').unwrap_or((text, b""))
 }

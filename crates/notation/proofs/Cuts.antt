@@ -1,10 +1,10 @@
 -- Where a text is cut. Assumes nothing.
-use Rattle.std.proofs.Common.{◌≡◌, ℕ, zero, suc, ◌<◌, List, [], ◌∷◌, ◌++◌, Some, None, decimal, Option, sym, refl, ◌∙◌, ap₂, append_assoc, arith, Bor, MatchOption}
+use Rattle.std.proofs.Common.{◌≡◌, ℕ, zero, suc, ◌<◌, Bool, true, false, cond, not, eqb, List, [], ◌∷◌, ◌++◌, length, is_some, Some, None, decimal, Option, sym, refl, ◌∙◌, ap₂, append_assoc, arith, Bor, MatchOption}
 use Rattle.std.proofs.lemmas.Str.Pattern.{IsSplitOnceResult, split_after, split_parts}
 use Rattle.std.proofs.lemmas.Option.{MatchOption-at_some, MatchOption-at_none}
 use Rattle.std.proofs.lemmas.Bool.{eq-eqb, ne_eqb}
 use Rattle.labels.specs.declared.houses.Parts.{Parts}
-use Rattle.notation.specs.Texts.{Lacks, pieces}
+use Rattle.notation.specs.Texts.{Lacks, pieces, before, words, words_in}
 use Rattle.labels.specs.Parts.{notation}
 use Rattle.notation.specs.Notation.{Small}
 use Rattle.notation.proofs.Decimals.{decimal_lacks}
@@ -33,6 +33,21 @@ pieces_one c (b ∷ bs) h = rw (ne_eqb b c (lacks_first c b bs h), pieces_one c 
 pub pieces_cut : (c : ℕ) (bs rest : List ℕ) → Lacks c bs → pieces c (bs ++ (c ∷ rest)) ≡ bs ∷ pieces c rest
 pieces_cut c [] rest h = rw (eq-eqb c c refl) refl
 pieces_cut c (b ∷ bs) rest h = rw (ne_eqb b c (lacks_first c b bs h), pieces_cut c bs rest (lacks_rest c b bs h)) refl
+
+before_some : (b : ℕ) (ps : List (List ℕ)) → 0 < length (before b ps)
+before_some b [] = omega arith
+before_some b (p ∷ ps) = omega arith
+
+-- there is always a piece
+pub pieces_some : (c : ℕ) (bs : List ℕ) → 0 < length (pieces c bs)
+pieces_some c [] = omega arith
+pieces_some c (b ∷ bs) = elim (eqb b c) as (λ t. 0 < length (cond t ([] ∷ pieces c bs) (before b (pieces c bs)))) [ true ↦ omega arith | false ↦ before_some b (pieces c bs) ]
+
+pub left_none : (o : Option (Bor (List ℕ))) (b : Bool) → is_some o ≡ not b → b ≡ eqb (length (words_in o)) 0
+left_none None true e = refl
+left_none None false e = cc
+left_none (Some text) true e = cc
+left_none (Some text) false e = sym (ne_eqb (length (words text.now)) 0 (λ z. omega (arith, pieces_some 32 text.now)))
 
 -- a,b
 abbrev Two : List ℕ → ℕ → ℕ → Type 0

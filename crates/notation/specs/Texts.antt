@@ -1,5 +1,5 @@
 -- Texts as lists of bytes, cut at a byte. Assumes nothing.
-use Rattle.std.specs.Prelude.{ℕ, ◌<◌, cond, List, [], ◌∷◌, ◌++◌, length, Some, None, Option, ◌==◌, ◌≢◌, slice_index}
+use Rattle.std.specs.Prelude.{◌≡◌, ℕ, ◌<◌, cond, List, [], ◌∷◌, ◌++◌, length, drop, Some, None, Option, ◌==◌, ◌≢◌, slice_index, slice_index_or}
 use Rattle.std.specs.Borrow.{Bor}
 use Rattle.notation.specs.declared.texts.Words.{Words}
 
@@ -28,6 +28,11 @@ words_in (Some text) = words text.now
 
 abbrev pub left : Words → List (List ℕ)
 left w = words_in w.rest
+
+-- the next word was given; an empty one where none was left
+pub record Gave (from : Words) (word : List ℕ) (to : Words) : Type 0 where
+  pub word_is : word ≡ slice_index_or (left from) 0 []
+  pub rest_is : left to ≡ drop 1 (left from)
 
 -- the lines of a text: each ends at a newline, which the last may lack
 pub data Lines : List ℕ → List (List ℕ) → Type 0 where

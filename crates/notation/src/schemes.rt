@@ -34,6 +34,7 @@ impl FromStr for SchemeName {
 pub fn read_label(scheme: SchemeName, word: &str) -> Option<u64>
     ensures { MatchOption result ((n : ℕ) → Names scheme word.now n → ⊥) (Names scheme word.now) }
 {
+    // Kept: an early return, as `or_else` was tried and its proof didn't close.
     if let Some(n) = read_number(word) {
         return Some(n);
     }

@@ -1,7 +1,7 @@
 //! Texts cut at a byte, and the words of a line.
-ghost use Rattle.std.specs.Prelude.{◌≡◌, ◌∷◌, ◌++◌, MatchOption};
+ghost use Rattle.std.specs.Prelude.{◌≡◌, ◌∷◌, ◌++◌, length, MatchOption, ◌==◌};
 ghost use Rattle.std.specs.Iterator.{YieldsFirstRef, item_count};
-ghost use Rattle.notation.specs.Texts.{Lacks, words, left};
+ghost use Rattle.notation.specs.Texts.{Lacks, words, left, Gave};
 
 /// What stands before the first byte `at`, and what stands behind it.
 pub fn split_once(text: &[u8], at: u8) -> Option<(&[u8], &[u8])>
@@ -22,6 +22,20 @@ impl<'a> Words<'a> {
         ensures { left result ≡ words line.now }
     {
         Words { rest: Some(line) }
+    }
+
+    /// The next word; an empty one where none is left.
+    pub fn next_word(&mut self) -> &'a str
+        ensures { Gave self.old result.now self.new }
+    {
+        self.next().unwrap_or("")
+    }
+
+    /// Is no word left?
+    pub fn at_end(&self) -> bool
+        ensures { result ≡ (length (left self.now) == 0) }
+    {
+        self.rest.is_none()
     }
 }
 
