@@ -38,13 +38,10 @@ pub struct Outcome {
 
 impl Outcome {
     /// The number of the end: 0 where all calls were answered, else that of the stop.
-    // Kept: as above; an outcome has a count as well.
+    // Kept: an outcome has a count as well; `u8::from(&outcome)` would not say which it gives.
     pub fn number(&self) -> u8
         ensures { result ≡ end_number self.now.end }
     {
-        match self.end {
-            Ok(()) => 0,
-            Err(stop) => stop.number(),
-        }
+        self.end.err().map_or(0, |stop| stop.number())
     }
 }

@@ -13,13 +13,10 @@ use stream::next_call;
 
 /// The number of an answer: 0 for a granted call, else that of the refusal.
 // Kept: `Result` and `u8` are std's, so `From` between them cannot be written here.
-fn number_of(answer: &Result<(), Refusal>) -> u8
-    ensures { result ≡ answer_number answer.now }
+fn number_of(answer: Result<(), Refusal>) -> u8
+    ensures { result ≡ answer_number answer }
 {
-    match answer {
-        Ok(()) => 0,
-        Err(refusal) => refusal.number(),
-    }
+    answer.err().map_or(0, |refusal| refusal.number())
 }
 
 /// Answers call after call, up to the end of the stream or its first bad call.
@@ -38,7 +35,7 @@ fn answer_all<S: Scheme>(guard: &mut Guard<S>, calls: &[u8], answers: &mut [u8])
         match next {
             Ok(call) => {
                 let answer = guard.call(call);
-                answers[answered] = number_of(&answer);
+                answers[answered] = number_of(answer);
                 answered += 1;
             }
             Err(fault) => {

@@ -21,13 +21,10 @@ pub(crate) fn answer_lines(heap: Global, answers: &[u8]) -> Result<String, Alloc
 pub(crate) fn last_line(heap: Global, end: Result<(), Stop>) -> Result<String, AllocError>
     ensures { IfOk result (λ s. string_bytes s ≡ final_line end) }
 {
-    let Err(stop) = end else {
-        return Ok(String::new(heap));
-    };
-    match stop {
-        Stop::BadCall(fault) => fault_line(heap, "bad", fault.number(), fault.place()),
-        Stop::BadRoll(fault) => fault_line(heap, "roll", fault.number(), fault.place()),
-        Stop::NoRoom => Ok(String::new(heap)),
+    match end {
+        Err(Stop::BadCall(fault)) => fault_line(heap, "bad", fault.number(), fault.place()),
+        Err(Stop::BadRoll(fault)) => fault_line(heap, "roll", fault.number(), fault.place()),
+        Ok(()) | Err(Stop::NoRoom) => Ok(String::new(heap)),
     }
 }
 

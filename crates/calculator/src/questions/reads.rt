@@ -64,9 +64,10 @@ fn read_rest(words: &mut Words, ask: Ask, scheme: SchemeName, a: u64) -> Result<
         Ask::Number => Question::Number(scheme, a),
         Ask::Parts => Question::Parts(scheme, a),
     };
-    match words.next() {
-        None => Ok(question),
-        Some(_) => Err(Fault::Extra),
+    if words.at_end() {
+        Ok(question)
+    } else {
+        Err(Fault::Extra)
     }
 }
 
