@@ -28,7 +28,7 @@ pub trait Little<const N: usize>: Copy + PartialEq {
     ghost few: { N ≤ 8 };
 }
 
-// Kept: the three impls differ in the type alone, but std has no trait over these types' bytes, and no macro of our own may write them.
+// Kept: three impls that differ in the type alone: the kit's traits over bytes say nothing of the number, and no macro of ours may write impls.
 impl Little<1> for u8 {
     const ZERO: u8 = 0;
 

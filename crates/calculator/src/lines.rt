@@ -6,6 +6,7 @@ ghost use Rattle.calculator.specs.Lines.{lines_of, lines_left};
 use notation::split_once;
 
 /// The lines of a text, one after another: each ends at a newline, which the last may lack.
+// Kept: an iterator of its own, since `split` gives an empty line behind a last newline, and `split_inclusive` leaves the newlines in.
 #[derive(Drop)]
 pub(crate) struct Lines<'a> {
     rest: &'a [u8],

@@ -64,6 +64,7 @@ impl fmt::Display for Fault {
 pub fn answer(question: Question) -> Reply
     ensures { result ≡ reply_to question }
 {
+    // Kept: two schemes, a closed set, each with a type of its own.
     match question.scheme() {
         SchemeName::House => answer_by(&house_label(), question),
         SchemeName::Old => answer_by(&old_label(), question),

@@ -13,6 +13,7 @@ use tables::types::{Object, USERS, User};
 fn groups_text(heap: Global, groups: GroupSet) -> Result<String, AllocError>
     ensures { IfOk result (λ s. string_bytes s ≡ members_text (codes ", groups") groups.0) }
 {
+    // Kept: one function writes the members of both sets, and asks them of the wider.
     members(heap, ", groups", ObjectSet(u64::from(groups.0)))
 }
 

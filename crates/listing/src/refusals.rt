@@ -12,7 +12,7 @@ pub struct Refusal {
     pub fault: RollFault,
 }
 
-// Kept: a type that is there to be printed, since `Display` for the fault itself would have to stand in its own crate, which prints nothing.
+// Kept: a type that is there to be printed, as the fault is another crate's type, which cannot be given a Display here.
 impl fmt::Display for Refusal {
     ghost output = { λ e. Text (refusal_text e.fault) };
 

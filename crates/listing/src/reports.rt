@@ -15,7 +15,7 @@ fn saves_as(heap: Global, guard: &Guard<House>, bytes: &[u8]) -> Result<bool, Al
     ensures { IfOk result (λ b. Decides b (saved guard.now.tables ≡ bytes.now)) }
 {
     let mut buf = vec![in heap; 0u8; bytes.len()]?;
-    // Kept: `is_ok_and` is no plainer, as the bytes are to be compared only where they were written.
+    // Kept: `is_ok_and` was tried, with both tests in the closure and with one, and its proof didn't close.
     Ok(match guard.save(buf.as_mut_slice()) {
         Ok(n) => n == bytes.len() && buf.as_slice() == bytes,
         Err(_) => false,

@@ -8,7 +8,7 @@ use sound::clauses::Clause;
 use tables::sets::Right;
 use tables::types::Kind;
 
-// Kept, in this file: functions and no Display, which would have to stand with the types, in crates of the engine, where nothing is told in words.
+// Kept, in this file: the types are other crates', which cannot be given a Display here; a wrapper round each is longer than a function.
 
 /// What is wrong with a record, in a word or two.
 fn record_word(fault: &RecordFault) -> &'static str

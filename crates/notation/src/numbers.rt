@@ -32,7 +32,7 @@ fn read_part(text: &str) -> Option<u16>
 }
 
 /// The parts that are written so, as `a,b;c,d`.
-// Kept: no FromStr, which would have to stand with the type, in `labels`, where no text is read.
+// Kept: `FromStr` would have to stand with the type, in `labels`, and take the reader of numbers and its proofs there with it.
 pub fn read_parts(text: &str) -> Option<Parts>
     ensures { MatchOption result ((p : PartsOf) → Small p → text.now ≢ notation p) (λ p. Small p × (text.now ≡ notation p)) }
 {

@@ -12,6 +12,7 @@ pub fn split_once(text: &[u8], at: u8) -> Option<(&[u8], &[u8])>
 }
 
 /// The words of a line, one after another.
+// Kept: an iterator of its own beside `str::split`, since a caller may ask whether a word is left, and take one that need not be there.
 #[derive(Drop)]
 pub struct Words<'a> {
     rest: Option<&'a str>,

@@ -7,8 +7,7 @@ use std::{fs, io};
 use transcript::old_transcript;
 
 /// The bytes of the file `roll`: none where there is no such file.
-// Kept: five programs have these lines. In a library it would be a public function that can promise nothing of the bytes, since the kit promises
-// nothing of what a file holds, and each public function here has a contract that names its answer.
+// Kept: in five programs, as a crate has one stored run; a library cannot promise what a file holds, and each public function here has a contract.
 fn read_roll(rt: &HostRuntime) -> io::Result<Vec<u8>> {
     match fs::read(rt, "roll") {
         Err(e) if e.kind() == io::ErrorKind::NotFound => Ok(Vec::new(rt.alloc())),

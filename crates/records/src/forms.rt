@@ -50,6 +50,7 @@ impl Record {
 }
 
 /// The bytes failed, or the record that begins at the place did.
+// Kept: a call's fault has the first two cases and no third; one type for both would have a case that no call can meet.
 #[derive(Clone, Copy, Debug, PartialEq)]
 pub enum RecordFault {
     Bytes(CursorFault),

@@ -47,6 +47,7 @@ pub fn group_map(g: &GroupRecord) -> u8
 }
 
 /// The fields of a group.
+// Kept: three readers, since each takes other fields; what they share is `Head::field`, and what they promise is one pair of words, `Taken` and `Failed`.
 fn group(c: &mut Cursor, head: Head) -> Result<GroupRecord, RecordFault>
     ensures { MatchResult result (Taken groups head.map head.number c.old c.new) (Failed groups head.map head.number c.old) }
 {
@@ -90,6 +91,7 @@ pub fn user_map(u: &UserRecord) -> u8
 }
 
 /// The fields of a user.
+// Kept: as above.
 fn user(c: &mut Cursor, head: Head) -> Result<UserRecord, RecordFault>
     ensures { MatchResult result (Taken users head.map head.number c.old c.new) (Failed users head.map head.number c.old) }
 {
@@ -148,6 +150,7 @@ pub fn object_map(o: &ObjectRecord) -> u8
 }
 
 /// The fields of an object.
+// Kept: as above.
 fn object(c: &mut Cursor, head: Head) -> Result<ObjectRecord, RecordFault>
     ensures { MatchResult result (Taken objects head.map head.number c.old c.new) (Failed objects head.map head.number c.old) }
 {

@@ -28,7 +28,7 @@ pub fn read_tables(bytes: &[u8]) -> Result<Tables, RecordFault>
     let mut c = Cursor::new(bytes);
     let mut tables = Tables::blank();
     let mut last = None;
-    // Kept: the records come from a cursor that is asked for its place between them, and the first bad one ends the roll by `?`.
+    // Kept: the cursor is asked for its place before each record; an iterator would have to give the place with it, and the loop ends by `?`.
     while !c.at_end() {
         let first = c.place();
         let record = read_record(&mut c)?;

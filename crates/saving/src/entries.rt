@@ -12,9 +12,8 @@ use records::{GroupRecord, ObjectRecord, Record, UserRecord, group_map, object_m
 use tables::sets::Rights;
 use tables::types::{Object, User};
 
-// Kept, in this file: each function says of its own value what it is in bytes. A trait over the values would say `Took` once and then define those
-// bytes, in the same words, for each of them.
 /// A group's record.
+// Kept: each function here says of its own value what it is in bytes; a trait would say `Took` once and define those bytes in the same words.
 fn put_group<S: Sink>(out: &mut S, g: &GroupRecord)
     ensures { Took S.Sink.puts out.old (encode (record_of.Group g.now)) out.new }
 {
@@ -23,6 +22,7 @@ fn put_group<S: Sink>(out: &mut S, g: &GroupRecord)
 }
 
 /// A user's record.
+// Kept: as above.
 fn put_user<S: Sink>(out: &mut S, u: &UserRecord)
     ensures { Took S.Sink.puts out.old (encode (record_of.User u.now)) out.new }
 {
@@ -34,6 +34,7 @@ fn put_user<S: Sink>(out: &mut S, u: &UserRecord)
 }
 
 /// An object's record.
+// Kept: as above.
 fn put_object<S: Sink>(out: &mut S, o: &ObjectRecord)
     ensures { Took S.Sink.puts out.old (encode (record_of.Object o.now)) out.new }
 {
@@ -47,6 +48,7 @@ fn put_object<S: Sink>(out: &mut S, o: &ObjectRecord)
 }
 
 /// A record: its map, kind and number, then the fields that are not zero.
+// Kept: as above.
 pub(crate) fn put_record<S: Sink>(out: &mut S, r: &Record)
     ensures { Took S.Sink.puts out.old (encode r.now) out.new }
 {

@@ -7,10 +7,9 @@ use crate::sinks::Sink;
 use byte_cursor::Little;
 use records::marks_of;
 
-// Kept, in this file: each function says of its own value what it is in bytes. A trait over the values would say `Took` once and then define those
-// bytes, in the same words, for each of them.
 // Kept: not a method of `Sink`, as a trait's method may have no const parameter.
 /// A field of a number.
+// Kept: each function here says of its own value what it is in bytes; a trait would say `Took` once and define those bytes in the same words.
 pub(crate) fn put_number<S: Sink, T: Little<N>, const N: usize>(out: &mut S, number: T)
     ensures { Took S.Sink.puts out.old (field N (T.value number)) out.new }
 {
@@ -20,6 +19,7 @@ pub(crate) fn put_number<S: Sink, T: Little<N>, const N: usize>(out: &mut S, num
 }
 
 /// The bytes that are not zero.
+// Kept: as above.
 fn put_bytes<S: Sink>(out: &mut S, bytes: &[u8])
     ensures { Took S.Sink.puts out.old (bytes_of bytes.now) out.new }
 {
@@ -29,6 +29,7 @@ fn put_bytes<S: Sink>(out: &mut S, bytes: &[u8])
 }
 
 /// The rights of the users: a map of those that have any, then a byte for each of these.
+// Kept: as above.
 pub(crate) fn put_rights<S: Sink>(out: &mut S, rights: &[u8; 16])
     ensures { Took S.Sink.puts out.old (rights_body rights.now) out.new }
 {

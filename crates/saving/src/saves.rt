@@ -10,13 +10,11 @@ use crate::entries::{Entry, put_record};
 use crate::sinks::{Counter, Sink, Writer};
 use tables::types::Tables;
 
-// Kept, in this file: each function says of its own value what it is in bytes. A trait over the values would say `Took` once and then define those
-// bytes, in the same words, for each of them.
 /// The buffer is too short.
 #[derive(Clone, Copy, Debug, PartialEq)]
 pub struct NoRoom;
 
-// Kept: each refusal has its number by a method of this name, and the type is what the code asks.
+// Kept: a refusal's number is got by a method of this name everywhere; `u8::from(NoRoom)` is no plainer.
 impl NoRoom {
     /// The refusal's number.
     pub fn number(&self) -> u8
@@ -27,6 +25,7 @@ impl NoRoom {
 }
 
 /// The slots that are not empty, in ascending order.
+// Kept: each function here says of its own value what it is in bytes; a trait would say `Took` once and define those bytes in the same words.
 fn put_slots<S: Sink, T: Entry>(out: &mut S, xs: &[Option<T>])
     requires { length xs.now ≤ 256 }
     ensures put { Took S.Sink.puts out.old (flat_map encode (slots T.Entry.written 0 xs.now)) out.new }
@@ -40,6 +39,7 @@ fn put_slots<S: Sink, T: Entry>(out: &mut S, xs: &[Option<T>])
 }
 
 /// The users, then the groups, then the objects.
+// Kept: as above.
 fn put_tables<S: Sink>(out: &mut S, t: &Tables)
     ensures put { Took S.Sink.puts out.old (saved t.now) out.new }
     ensures short { length (saved t.now) ≤ 2704 }

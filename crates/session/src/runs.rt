@@ -20,7 +20,7 @@ fn number_of(answer: Result<(), Refusal>) -> u8
 }
 
 /// Answers call after call, up to the end of the stream or its first bad call.
-// Kept: the lines on what is kept and on the scheme stand here and below.
+// Kept: what is kept, and the scheme that stays, are a clause each; a record of the two would be longer than both uses of it.
 fn answer_all<S: Scheme>(guard: &mut Guard<S>, calls: &[u8], answers: &mut [u8]) -> Outcome
     requires { length calls.now / 2 ≤ length answers.old }
     ensures ran { Stretch (S.Scheme.meaning guard.old.scheme) guard.old.tables calls.now result.answered result.end answers.old answers.new guard.new.tables }
@@ -29,8 +29,7 @@ fn answer_all<S: Scheme>(guard: &mut Guard<S>, calls: &[u8], answers: &mut [u8])
 {
     let mut c = Cursor::new(calls);
     let mut answered = 0;
-    // Kept: the calls come from a cursor and not from a slice, and the count is what the outcome says; pairing them with the places of the buffer
-    // would need the count as well.
+    // Kept: a count beside a cursor, as the outcome says it; an iterator of calls zipped with the buffer would need the count as well.
     while let Some(next) = next_call(&mut c) {
         match next {
             Ok(call) => {
@@ -52,7 +51,7 @@ fn answer_all<S: Scheme>(guard: &mut Guard<S>, calls: &[u8], answers: &mut [u8])
     }
 }
 
-// Kept: that the scheme stays, and what is kept stays kept, are a line each, here and in the function above; see `Guard` for why no type says them.
+// Kept: as above.
 /// Loads a roll, answers the calls of a stream one after another, up to its end or its first bad call, and writes the answers into the front of a
 /// buffer, a byte each. A buffer with less than a byte for every two of the stream is refused before anything is done.
 pub fn run<S: Scheme>(

@@ -6,6 +6,7 @@ ghost use Rattle.stream.specs.Faults.{fault_number, fault_place};
 use byte_cursor::CursorFault;
 
 /// The bytes end inside a call, or the call that begins at the place is in bad form.
+// Kept: a record's fault has a third case, which no call can meet.
 #[derive(Clone, Copy)]
 pub enum CallFault {
     Bytes(CursorFault),
@@ -21,7 +22,7 @@ impl From<CursorFault> for CallFault {
 }
 
 impl CallFault {
-    // Kept: each refusal has its number by a method of this name, and the type is what the code asks.
+    // Kept: a fault has a number and a place; `u8::from(&fault)` would not say which of the two it gives.
     /// The number of this fault: 11 for a call that is cut short, 12 for bad form.
     pub fn number(&self) -> u8
         ensures { result ≡ fault_number self.now }

@@ -20,8 +20,7 @@ struct Arguments {
     label: u64,
 }
 
-// Kept, in this file: the matches over a call's number, which is what the format has. The numbers stand here alone, in the map's reader and in the
-// calls' makers, and an enum of them would be a third list of the same fourteen.
+// Kept, in this file: matches over the number that the format has for a call; an enum of them would be a third list of the same fourteen.
 /// The map with the label's bit at bit 4, behind those of four bytes: `None` where no call has the number, or a bit stands for no argument.
 fn full_map(number: u8, bits: u8) -> Option<u8>
     ensures { MatchOption result (Known number bits → ⊥) (λ m. Known number bits × (m ≡ spread_map (kept number) bits)) }

@@ -29,7 +29,7 @@ fn load_tables<S: Scheme>(scheme: &S, bytes: &[u8]) -> Result<Tables, RollFault>
     }
 }
 
-// Kept: blank or sound, and the scheme that stays, are said of `new` and `load` each; see the type `Guard` for why no type says it.
+// Kept: blank or sound is said of `new` and `load` each, since no type can say it (see `Guard`); the scheme that stays is a clause of `load` alone.
 impl<S: Scheme> Guard<S> {
     /// A blank guard.
     pub fn new(scheme: S) -> Guard<S>
