@@ -12,6 +12,7 @@ import sys
 POINTS = {
     1: [
         (r"let (Some|Ok)\(.*\) = .* else \{\n\s*return (Err\(|None)", "an early return that is a `?`"),
+        (r"let (Some|Ok)\(.*\) = .* else \{\n\s*return (true|false);", "an early answer by hand"),
         (r"^\s*None => (true|false|0|None|\(0, 0\)|\w+\(0\)),?$|Err\(_\) => (None|false)", "a default by hand"),
         (r"\bkind: u8\b(?!:)|\bkind (>|==) 2\b", "a number for a kind"),
         (r"fn (number|rank|number_of)\(.*\) -> u(8|16)\n.*\n\s*\{\n\s*(match|15)", "a number for a refusal or an order"),
@@ -62,7 +63,7 @@ POINTS = {
         (r"^\s*pub parent: u8,$", "a tree by numbers"),
     ],
     7: [
-        (r"match (call|number|ask|question|head\[1\]|kind|scheme) \{(?!\n\s*(Kind|0)\b)", "a switch"),
+        (r"match (call|number|ask|question|question\.scheme\(\)|head\[1\]|kind|scheme|clause) \{(?!\n\s*(Kind|0)\b)(?!\n.*\")", "a switch"),
         (r"^\s*return Some\(Clause::", "a row of tests"),
         (r"^\s*name\(&mut out, set, Right::", "a row of calls"),
     ],
