@@ -66,6 +66,7 @@ impl<S: Scheme> View<'_, S> {
         if o == 0 {
             return true;
         }
+        // Kept: `is_none_or` was tried, here and in `held_over`; it learns nothing of a call of a generic method, and the proof didn't close.
         let Some(x) = self.tables.object(o) else {
             return true;
         };
@@ -76,6 +77,7 @@ impl<S: Scheme> View<'_, S> {
     fn held_over(&self, x: u8) -> bool
         ensures { Decides result (HeldOver (S.Scheme.meaning self.now.scheme.now) self.now.tables.now x) }
     {
+        // Kept: as above.
         let Some(object) = self.tables.object(x) else {
             return true;
         };
