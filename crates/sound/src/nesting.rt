@@ -28,6 +28,7 @@ impl<S: Scheme> View<'_, S> {
             return false;
         }
         // Kept: a loop, since it leaves the walk at four places, and `successors` would still have to count the steps.
+        // Kept: `climbs` of tables walks up alike with another test at each step; shared, with a closure, it would have to promise each answer on the way.
         let mut at = p;
         for _step in 0..objects_end(&self.tables.objects) {
             let Some(object) = self.tables.object(at) else {
