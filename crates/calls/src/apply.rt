@@ -8,7 +8,7 @@ use tables::sets::{GroupSet, Rights};
 use tables::types::{Kind, Object, Subject, Tables, USERS};
 
 /// The object that create makes.
-// Kept: the byte of the call, which `created` speaks of; it is read as a kind here and nowhere else.
+// Kept: the kind is the byte of the call, which `created` speaks of.
 fn new_object(owner: u8, parent: u8, kind: u8, label: u64) -> Object
     ensures { result ≡ created owner parent kind label }
 {

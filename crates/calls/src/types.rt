@@ -95,6 +95,7 @@ pub enum Refusal {
 
 impl Refusal {
     /// The number of this refusal.
+    // Kept: the method that promises the number; the numbers themselves stand in the enum now.
     pub fn number(&self) -> u8
         ensures { result ≡ refusal_number self.now }
     {
@@ -125,6 +126,6 @@ impl From<UnknownKind> for Refusal {
     ghost from_gives = { λ _ e. e ≡ WrongKind };
 
     fn from(_kind: UnknownKind) -> Refusal {
-        Refusal::WrongKind
+        Self::WrongKind
     }
 }

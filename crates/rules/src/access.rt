@@ -2,8 +2,7 @@
 ghost use Rattle.std.specs.Prelude.{◌≡◌, Decides};
 ghost use Rattle.tables.specs.State.{user as user_of};
 ghost use Rattle.sound.specs.Nesting.{InRange};
-ghost use Rattle.calls.specs.Calls.{Answer};
-ghost use Rattle.calls.specs.Refusals.{answer_number};
+ghost use Rattle.rules.specs.Views.{Answers};
 
 use crate::named::parties;
 use calls::types::{Call, Refusal};
@@ -22,9 +21,10 @@ fn in_range<S: Scheme>(v: &View<S>, user: u8, label: u64) -> bool
 
 /// A user enters as a new subject.
 pub(crate) fn enter<S: Scheme>(v: &View<S>, user: u8, number: u8, label: u64) -> Result<(), Refusal>
-    ensures { Answer (S.Scheme.meaning v.now.scheme.now) v.now.tables.now (Call.Enter user number label) (answer_number result) }
+    ensures { Answers S.Scheme.meaning v.now (Call.Enter user number label) result }
 {
     v.tables.user(user).ok_or(Refusal::NobodyThere)?;
+    // Kept: a function of the next three tests would have to promise three refusals by cases, which is longer than the tests.
     if number as usize >= SUBJECTS {
         return Err(Refusal::NobodyThere);
     }
@@ -42,7 +42,7 @@ pub(crate) fn enter<S: Scheme>(v: &View<S>, user: u8, number: u8, label: u64) ->
 
 /// A subject leaves.
 pub(crate) fn leave<S: Scheme>(v: &View<S>, subject: u8) -> Result<(), Refusal>
-    ensures { Answer (S.Scheme.meaning v.now.scheme.now) v.now.tables.now (Call.Leave subject) (answer_number result) }
+    ensures { Answers S.Scheme.meaning v.now (Call.Leave subject) result }
 {
     v.tables.subject(subject).ok_or(Refusal::NobodyThere)?;
     Ok(())
@@ -50,7 +50,7 @@ pub(crate) fn leave<S: Scheme>(v: &View<S>, subject: u8) -> Result<(), Refusal>
 
 /// A subject reads an object.
 pub(crate) fn read<S: Scheme>(v: &View<S>, subject: u8, object: u8) -> Result<(), Refusal>
-    ensures { Answer (S.Scheme.meaning v.now.scheme.now) v.now.tables.now (Call.Read subject object) (answer_number result) }
+    ensures { Answers S.Scheme.meaning v.now (Call.Read subject object) result }
 {
     let (s, o) = parties(v.tables, subject, object)?;
     if !v.tables.has_right(s.user, o, Right::Read) {
@@ -64,7 +64,7 @@ pub(crate) fn read<S: Scheme>(v: &View<S>, subject: u8, object: u8) -> Result<()
 
 /// A subject writes to a file.
 pub(crate) fn write<S: Scheme>(v: &View<S>, subject: u8, object: u8) -> Result<(), Refusal>
-    ensures { Answer (S.Scheme.meaning v.now.scheme.now) v.now.tables.now (Call.Write subject object) (answer_number result) }
+    ensures { Answers S.Scheme.meaning v.now (Call.Write subject object) result }
 {
     let (s, o) = parties(v.tables, subject, object)?;
     match o.kind {
@@ -83,9 +83,10 @@ pub(crate) fn launch<S: Scheme>(
     number: u8,
     label: u64,
 ) -> Result<(), Refusal>
-    ensures { Answer (S.Scheme.meaning v.now.scheme.now) v.now.tables.now (Call.Launch subject program number label) (answer_number result) }
+    ensures { Answers S.Scheme.meaning v.now (Call.Launch subject program number label) result }
 {
     let (s, o) = parties(v.tables, subject, program)?;
+    // Kept: a function of the next three tests would have to promise three refusals by cases, which is longer than the tests.
     if number as usize >= SUBJECTS {
         return Err(Refusal::NobodyThere);
     }

@@ -1,6 +1,5 @@
 //! The calls that set the label and the mixed mark of an object.
-ghost use Rattle.calls.specs.Calls.{Answer};
-ghost use Rattle.calls.specs.Refusals.{answer_number};
+ghost use Rattle.rules.specs.Views.{Answers};
 
 use crate::named::parties;
 use crate::nests::{label_of, nests_at};
@@ -12,7 +11,7 @@ use tables::types::Kind;
 
 /// A subject marks a container as mixed.
 pub(crate) fn mix<S: Scheme>(v: &View<S>, subject: u8, object: u8) -> Result<(), Refusal>
-    ensures { Answer (S.Scheme.meaning v.now.scheme.now) v.now.tables.now (Call.Mix subject object) (answer_number result) }
+    ensures { Answers S.Scheme.meaning v.now (Call.Mix subject object) result }
 {
     let (s, o) = parties(v.tables, subject, object)?;
     match o.kind {
@@ -27,7 +26,7 @@ pub(crate) fn mix<S: Scheme>(v: &View<S>, subject: u8, object: u8) -> Result<(),
 
 /// A subject marks a container as unmixed, which asks what marking it as mixed asks, and that it holds what lies under it.
 pub(crate) fn unmix<S: Scheme>(v: &View<S>, subject: u8, object: u8) -> Result<(), Refusal>
-    ensures { Answer (S.Scheme.meaning v.now.scheme.now) v.now.tables.now (Call.Unmix subject object) (answer_number result) }
+    ensures { Answers S.Scheme.meaning v.now (Call.Unmix subject object) result }
 {
     mix(v, subject, object)?;
     if !v.holds_under(object, label_of(v.tables, object)) {
@@ -43,7 +42,7 @@ pub(crate) fn raise<S: Scheme>(
     object: u8,
     label: u64,
 ) -> Result<(), Refusal>
-    ensures { Answer (S.Scheme.meaning v.now.scheme.now) v.now.tables.now (Call.Raise subject object label) (answer_number result) }
+    ensures { Answers S.Scheme.meaning v.now (Call.Raise subject object label) result }
 {
     let (s, o) = parties(v.tables, subject, object)?;
     if !v.scheme.label(label) {

@@ -1,6 +1,5 @@
 //! The calls that set rights and allow lists.
-ghost use Rattle.calls.specs.Calls.{Answer};
-ghost use Rattle.calls.specs.Refusals.{answer_number};
+ghost use Rattle.rules.specs.Views.{Answers};
 
 use crate::named::parties;
 use calls::types::{Call, Refusal};
@@ -17,7 +16,7 @@ pub(crate) fn rights<S: Scheme>(
     user: u8,
     mask: u8,
 ) -> Result<(), Refusal>
-    ensures { Answer (S.Scheme.meaning v.now.scheme.now) v.now.tables.now (Call.Rights subject object user mask) (answer_number result) }
+    ensures { Answers S.Scheme.meaning v.now (Call.Rights subject object user mask) result }
 {
     let (s, o) = parties(v.tables, subject, object)?;
     v.tables.user(user).ok_or(Refusal::NobodyThere)?;
@@ -40,7 +39,7 @@ pub(crate) fn allow<S: Scheme>(
     user: u8,
     program: u8,
 ) -> Result<(), Refusal>
-    ensures { Answer (S.Scheme.meaning v.now.scheme.now) v.now.tables.now (Call.Allow subject user program) (answer_number result) }
+    ensures { Answers S.Scheme.meaning v.now (Call.Allow subject user program) result }
 {
     let (s, o) = parties(v.tables, subject, program)?;
     v.tables.user(user).ok_or(Refusal::NobodyThere)?;
@@ -53,7 +52,7 @@ pub(crate) fn allow<S: Scheme>(
 
 /// A subject takes a program off the allow list of a user, which asks what putting it on the list asks.
 pub(crate) fn bar<S: Scheme>(v: &View<S>, subject: u8, user: u8, program: u8) -> Result<(), Refusal>
-    ensures { Answer (S.Scheme.meaning v.now.scheme.now) v.now.tables.now (Call.Bar subject user program) (answer_number result) }
+    ensures { Answers S.Scheme.meaning v.now (Call.Bar subject user program) result }
 {
     allow(v, subject, user, program)
 }

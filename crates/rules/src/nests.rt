@@ -6,8 +6,9 @@ ghost use Rattle.sound.specs.Nesting.{Unmixed, HeldAbove, HoldsUnder, HeldOverAt
 ghost use Rattle.calls.specs.Calls.{AllHeldAbove, Childless, Idle};
 
 use labels::Scheme;
+use sound::ends::objects_end;
 use sound::views::View;
-use tables::types::{Kind, Object, Tables};
+use tables::types::{Kind, Tables};
 
 /// The label of object `o`: 0 if there is no such object.
 pub(crate) fn label_of(t: &Tables, o: u8) -> u64
@@ -42,8 +43,7 @@ pub(crate) fn nests_at<S: Scheme>(v: &View<S>, o: u8, label: u64) -> bool
 fn all_fit<S: Scheme>(v: &View<S>, o: u8, q: u8) -> bool
     ensures { Decides result (AllHeldAbove (S.Scheme.meaning v.now.scheme.now) v.now.tables.now o q) }
 {
-    let objects: &[Option<Object>] = &v.tables.objects;
-    (0..objects.len() as u8).all(|x| !v.tables.lies_under(x, o)
+    (0..objects_end(&v.tables.objects)).all(|x| !v.tables.lies_under(x, o)
         || v.held_above(q, label_of(v.tables, x)))
 }
 

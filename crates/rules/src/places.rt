@@ -1,7 +1,6 @@
 //! The calls that make, take away and move objects.
 ghost use Rattle.std.specs.Prelude.{◌≡◌, true, Decides};
-ghost use Rattle.calls.specs.Calls.{Answer};
-ghost use Rattle.calls.specs.Refusals.{answer_number};
+ghost use Rattle.rules.specs.Views.{Answers};
 
 use crate::named::parties;
 use crate::nests::{fits_under, is_removable, label_of};
@@ -12,7 +11,7 @@ use tables::sets::Right;
 use tables::types::{Kind, OBJECTS};
 
 /// A subject makes an object.
-// Kept: the kind is the byte of the call, which the answer is about; the first lines read it.
+// Kept: the kind is the byte of the call, which the answer is about.
 pub(crate) fn create<S: Scheme>(
     v: &View<S>,
     subject: u8,
@@ -21,9 +20,10 @@ pub(crate) fn create<S: Scheme>(
     kind: u8,
     label: u64,
 ) -> Result<(), Refusal>
-    ensures { Answer (S.Scheme.meaning v.now.scheme.now) v.now.tables.now (Call.Create subject parent number kind label) (answer_number result) }
+    ensures { Answers S.Scheme.meaning v.now (Call.Create subject parent number kind label) result }
 {
     let (s, p) = parties(v.tables, subject, parent)?;
+    // Kept: a function of the next three tests would have to promise three refusals by cases, which is longer than the tests.
     if number as usize >= OBJECTS {
         return Err(Refusal::NobodyThere);
     }
@@ -48,7 +48,7 @@ pub(crate) fn create<S: Scheme>(
 
 /// A subject takes an object away.
 pub(crate) fn delete<S: Scheme>(v: &View<S>, subject: u8, object: u8) -> Result<(), Refusal>
-    ensures { Answer (S.Scheme.meaning v.now.scheme.now) v.now.tables.now (Call.Delete subject object) (answer_number result) }
+    ensures { Answers S.Scheme.meaning v.now (Call.Delete subject object) result }
 {
     let (s, o) = parties(v.tables, subject, object)?;
     if !v.tables.has_right(s.user, o, Right::Delete) {
@@ -83,7 +83,7 @@ pub(crate) fn move_object<S: Scheme>(
     object: u8,
     parent: u8,
 ) -> Result<(), Refusal>
-    ensures { Answer (S.Scheme.meaning v.now.scheme.now) v.now.tables.now (Call.Move subject object parent) (answer_number result) }
+    ensures { Answers S.Scheme.meaning v.now (Call.Move subject object parent) result }
 {
     let (s, o) = parties(v.tables, subject, object)?;
     let q = v.tables.object(parent).ok_or(Refusal::NobodyThere)?;

@@ -1,5 +1,5 @@
 -- When the tables are sound, clause by clause, and which clause fails first. Assumes nothing.
-use Rattle.std.specs.Prelude.{◌≡◌, ℕ, ◌<◌, true, ◌⊎◌, List, ◌≢◌, slice_index_or}
+use Rattle.std.specs.Prelude.{◌≡◌, ℕ, ◌<◌, true, is_some, ◌⊎◌, List, Option, None, ◌≢◌, slice_index_or}
 use Rattle.labels.specs.Meaning.{Meaning}
 use Rattle.tables.specs.declared.sets.Rights.{Rights}
 use Rattle.tables.specs.declared.types.Kind.{Kind}
@@ -48,9 +48,13 @@ pub record Rooted (t : Tables) : Type 0 where
   pub own : (object t 0).parent ≡ 0
   pub placed : (o : ℕ) → has_object t o ≡ true → Placed t o
 
+-- every user with some right in these sets, one for each user, is among these users
+abbrev pub HoldersAmong : List (Option User) → List Rights → Type 0
+HoldersAmong users sets = (u : ℕ) → ((slice_index_or sets u no_rights).0 ≢ 0) → is_some (slice_index_or users u None) ≡ true
+
 -- every user with some right in these sets, one for each user, exists
 abbrev pub HoldersThere : Tables → List Rights → Type 0
-HoldersThere t sets = (u : ℕ) → ((slice_index_or sets u no_rights).0 ≢ 0) → has_user t u ≡ true
+HoldersThere t sets = HoldersAmong t.users sets
 
 -- (d) owners, and users with rights on an object, exist
 pub record Owned (t : Tables) : Type 0 where

@@ -28,6 +28,7 @@ impl<S: Scheme> View<'_, S> {
             return false;
         }
         // Kept: a loop, since it leaves the walk at four places, and `successors` would still have to count the steps.
+        // Kept: `climbs` of tables walks up alike with another test at each step; shared, with a closure, it would have to promise each answer on the way.
         let mut at = p;
         for _step in 0..objects_end(&self.tables.objects) {
             let Some(object) = self.tables.object(at) else {
@@ -66,6 +67,7 @@ impl<S: Scheme> View<'_, S> {
         if o == 0 {
             return true;
         }
+        // Kept: `is_none_or` was tried, here and in `held_over`; it learns nothing of a call of a generic method, and the proof didn't close.
         let Some(x) = self.tables.object(o) else {
             return true;
         };
@@ -76,6 +78,7 @@ impl<S: Scheme> View<'_, S> {
     fn held_over(&self, x: u8) -> bool
         ensures { Decides result (HeldOver (S.Scheme.meaning self.now.scheme.now) self.now.tables.now x) }
     {
+        // Kept: as above.
         let Some(object) = self.tables.object(x) else {
             return true;
         };

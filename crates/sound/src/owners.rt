@@ -1,14 +1,13 @@
 //! Clause (d): owners, and users with rights on an object, exist.
-ghost use Rattle.std.specs.Prelude.{◌≡◌, ℕ, true, is_some, None, ◌≢◌, Decides, slice_index_or};
-ghost use Rattle.tables.specs.State.{no_rights};
-ghost use Rattle.sound.specs.Sound.{Owned};
+ghost use Rattle.std.specs.Prelude.{Decides};
+ghost use Rattle.sound.specs.Sound.{HoldersAmong, Owned};
 
 use tables::sets::Rights;
 use tables::types::{Tables, USERS, User};
 
 /// Does every user with a right in these sets exist?
 fn holders_there(users: &[Option<User>; USERS], sets: &[Rights; USERS]) -> bool
-    ensures { Decides result ((u : ℕ) → ((slice_index_or sets.now u no_rights).0 ≢ 0) → is_some (slice_index_or users.now u None) ≡ true) }
+    ensures { Decides result (HoldersAmong users.now sets.now) }
 {
     sets.iter()
         .zip(users)

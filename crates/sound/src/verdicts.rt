@@ -18,6 +18,7 @@ impl<S: Scheme> View<'_, S> {
     fn holds(&self, clause: Clause) -> bool
         ensures { Decides result (Holding clause (S.Scheme.meaning self.now.scheme.now) self.now.tables.now) }
     {
+        // Kept: the clauses are a closed set, and each asks something else.
         match clause {
             Clause::Groups => groups_exist(self.tables),
             Clause::Labels => self.labels_hold(),

@@ -46,7 +46,7 @@ impl Right {
     }
 }
 
-// Kept: three types of sets, so that none is taken for another, with what they share in `has_bit`; each `contains` is one line.
+// Kept: three types of sets, of three widths, as the format has them; what they share is in `has_bit`, and each `contains` is one line.
 impl Rights {
     /// Is `right` in this set?
     pub fn contains(self, right: Right) -> bool

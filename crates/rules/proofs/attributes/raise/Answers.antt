@@ -2,6 +2,4 @@ use Rattle.std.proofs.Common.{rules}
 use Rattle.rules.proofs.attributes.raise.Goals as goal
 
 pub returns-then-not-nests_at : goal.returns-then-not-nests_at
-returns-then-not-nests_at g c =
-    let f = c.in_ok-s.ensures in
-    rw (f.maker, f.thing) (search rules)
+returns-then-not-nests_at g c = search rules fits 4000
