@@ -28,7 +28,7 @@ impl<S: Scheme> View<'_, S> {
             return false;
         }
         // Kept: a loop, since it leaves the walk at four places, and `successors` would still have to count the steps.
-        // Kept: `climbs` of tables walks up alike with another test at each step; shared, with a closure, it would have to promise each answer on the way.
+        // Kept: `climbs` of tables is the same walk with another test at each step; with a closure for it, it would have to promise the way that it took.
         let mut at = p;
         for _step in 0..objects_end(&self.tables.objects) {
             let Some(object) = self.tables.object(at) else {
@@ -67,7 +67,7 @@ impl<S: Scheme> View<'_, S> {
         if o == 0 {
             return true;
         }
-        // Kept: `is_none_or` was tried, here and in `held_over`; it learns nothing of a call of a generic method, and the proof didn't close.
+        // Kept: `is_none_or` was tried, here and in `held_over`; it learns nothing of a closure that calls a generic method: no proof closed.
         let Some(x) = self.tables.object(o) else {
             return true;
         };

@@ -11,7 +11,7 @@ fn climbs(objects: &[Option<Object>], x: u8, p: u8) -> bool
 {
     // Kept: parents are numbers of slots, since rolls and calls name objects so, and the tables are fixed.
     // Kept: a loop, since it leaves the walk at four places, and `successors` would still have to count the steps.
-    // Kept: sound's `held_above` walks up alike with another test at each step; shared, with a closure, it would have to promise each answer on the way.
+    // Kept: `held_above` of sound is the same walk with another test at each step; with a closure for it, it would have to promise the way that it took.
     let mut at = x;
     for _step in 0..objects.len() {
         let Some(object) = slot(objects, at) else {
