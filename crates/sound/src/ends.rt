@@ -12,6 +12,7 @@ pub fn subjects_end(subjects: &[Option<Subject>; SUBJECTS]) -> u8
 }
 
 /// Past every object's number.
+// Kept: as above.
 pub fn objects_end(objects: &[Option<Object>; OBJECTS]) -> u8
     ensures { result ≡ length objects.now }
 {
