@@ -95,7 +95,7 @@ pub enum Refusal {
 
 impl Refusal {
     /// The number of this refusal.
-    // Kept: the method that promises the number; the numbers themselves stand in the enum now.
+    // Kept: a public method, which refusals and faults all have under this name; a `From` beside it would promise the same twice.
     pub fn number(&self) -> u8
         ensures { result ≡ refusal_number self.now }
     {

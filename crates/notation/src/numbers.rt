@@ -48,7 +48,7 @@ pub fn read_parts(text: &str) -> Option<Parts>
 }
 
 /// The two numbers that are written so, as `a,b`.
-// Kept: as above, of two numbers.
+// Kept: a pair is std's type, so `FromStr` for it cannot be written here.
 fn read_two(text: &str) -> Option<(u16, u16)>
     ensures { MatchOption result ((m n : ℕ) → m < 65536 → n < 65536 → text.now ≢ decimal m ++ (44 ∷ decimal n)) (λ p. (p.0 < 65536) × (p.1 < 65536) × (text.now ≡ decimal p.0 ++ (44 ∷ decimal p.1))) }
 {

@@ -51,7 +51,7 @@ fn answer_all<S: Scheme>(guard: &mut Guard<S>, calls: &[u8], answers: &mut [u8])
     }
 }
 
-// Kept: as above.
+// Kept: as at `answer_all`.
 /// Loads a roll, answers the calls of a stream one after another, up to its end or its first bad call, and writes the answers into the front of a
 /// buffer, a byte each. A buffer with less than a byte for every two of the stream is refused before anything is done.
 pub fn run<S: Scheme>(

@@ -3,8 +3,8 @@ ghost use Rattle.std.specs.Prelude.{◌≡◌, length};
 
 use tables::types::{OBJECTS, Object, SUBJECTS, Subject};
 
-// Kept: each table has a length of its own, which stands in its type; a chain over the numbers needs it said of the table at hand.
 /// Past every subject's number.
+// Kept: one function generic in the length could not promise this, as a length above 255 is no u8; nothing here asks it now, but it is public.
 pub fn subjects_end(subjects: &[Option<Subject>; SUBJECTS]) -> u8
     ensures { result ≡ length subjects.now }
 {
@@ -12,7 +12,7 @@ pub fn subjects_end(subjects: &[Option<Subject>; SUBJECTS]) -> u8
 }
 
 /// Past every object's number.
-// Kept: as above.
+// Kept: one function generic in the length could not promise this, as a length above 255 is no u8.
 pub fn objects_end(objects: &[Option<Object>; OBJECTS]) -> u8
     ensures { result ≡ length objects.now }
 {

@@ -67,7 +67,7 @@ impl<S: Scheme> View<'_, S> {
         if o == 0 {
             return true;
         }
-        // Kept: `is_none_or` was tried, here and in `held_over`; it learns nothing of a closure that calls a generic method: no proof closed.
+        // Kept: `is_none_or` was tried, here and in `held_over`, and neither proof closed.
         let Some(x) = self.tables.object(o) else {
             return true;
         };

@@ -11,7 +11,7 @@ use crate::types::{Object, Subject, Tables, User};
 fn strike(users: &mut [Option<User>], o: u8)
     ensures { users.new ≡ map (option_map (unlisting o)) users.old }
 {
-    // Kept: over `iter_mut().flatten()` a proof learns nothing of the slots.
+    // Kept: `iter_mut().flatten()` was tried, and its proof didn't close: behind an adapter of `iter_mut` nothing is known of the slots.
     for place in users.iter_mut() {
         if let Some(user) = place {
             user.allowed.remove(o);
@@ -19,7 +19,7 @@ fn strike(users: &mut [Option<User>], o: u8)
     }
 }
 
-// Kept: a method for each change, since calls name them so; what they share is `put` and `change`, and each is one line.
+// Kept: a method for each change, since calls name them so; what they share is `put` and `change`, and each is a line or two.
 impl Tables {
     /// Puts a subject into slot `n`.
     pub fn add_subject(&mut self, n: u8, subject: Subject)

@@ -14,7 +14,7 @@ pub(crate) fn slot<T>(table: &[Option<T>], i: u8) -> Option<&T>
 pub(crate) fn put<T: Copy>(table: &mut [T], i: u8, v: T)
     ensures { table.new ≡ slice_set table.old i v }
 {
-    // Kept: through the place that `get_mut` lends, a proof learns the table's length and none of its elements.
+    // Kept: `get_mut` was tried, and its proof didn't close: of the place that it lends one learns the table's length and none of its elements.
     if (i as usize) < table.len() {
         table[i as usize] = v;
     }

@@ -56,7 +56,7 @@ fn read_words(words: &mut Words) -> Result<Question, Fault>
 fn read_rest(words: &mut Words, ask: Ask, scheme: SchemeName, a: u64) -> Result<Question, Fault>
     ensures { (ws : List (List ℕ)) → left words.old ≡ drop 3 ws → Rest ws ask scheme a result }
 {
-    // Kept: five questions, a closed set, and each takes other labels.
+    // Kept: five questions, a closed set, of which two take a second label.
     let question = match ask {
         Ask::Label => Question::Label(scheme, a),
         Ask::Flows => Question::Flows(scheme, a, read_second(words, scheme)?),
