@@ -2,8 +2,7 @@
 """Counts the places in src/ that the design pass looks at: python3 tools/places.py COMMIT [POINT] [-l]
 
 Each point has a few patterns, one for each old form; a piece of code that fits one is a place. Comments are not looked at, and contracts only where a
-point is about them. A place counts as kept if a line that begins `// Kept:` stands in its function or type, or above the impl that it is in, or one that begins
-`// Kept, in this file:` in its file.
+point is about them. A place counts as kept if a line that begins `// Kept:` stands in its function or type, or above the impl that it is in.
 -l lists the places."""
 import re
 import subprocess
@@ -18,6 +17,7 @@ POINTS = {
         (r"fn (number|rank|number_of)\(.*\) -> u(8|16)\n.*\n\s*\{\n\s*(match|15)", "a number for a refusal or an order"),
         (r'return "";|let mut last = 0;', "a value that stands for nothing"),
         (r"pub enum End\b", "an own enum of Result's shape"),
+        (r"match (\w+\.)?first_failing\(", "a match that is a method"),
     ],
     2: [
         (r"fn (put_)?(byte|u16|u64)(_if)?[<(]", "one for each width of a number"),
@@ -31,12 +31,14 @@ POINTS = {
         (r"\} = t\.|if let Some\(\w+\) = t\.(user|group)\(number\)", "one for each table"),
         (r"fn (house|old)_(guard|transcript)\(|fn (secrecy|trust)_label\(", "one for each label"),
         (r"Container if !\w+\.has_right\(s\.user, o, Right::WriteAttributes\) =>", "one for each mark"),
+        (r"has_right\(s\.user, o, .*\n(\s*return Err.*\n\s*\}\n|\s*Err.*\n\s*\}\n)?.*\bflows\(s\.label, o\.label\)", "the right, then the flow"),
         (r'let \(a, b\) = \(p\.|"(bad|roll) \{number\} \{place\}', "the same print"),
         (r"Question::(Label|Flows|Holds)\(SchemeName::(House|Old),", "one for each label"),
     ],
     3: [
         (r"\bfor \w+ in .*\.\.", "a loop over numbers"),
         (r"\bwhile\b", "a loop that counts or cuts by hand"),
+        (r"fn next_call\(", "an iterator's shape"),
         (r"for \(\w+, \w+\) in .*enumerate\(\) \{\n\s*if .*\{\n\s*return", "a search by hand"),
     ],
     4: [
@@ -53,6 +55,8 @@ POINTS = {
         (r"scheme: &S, t: &Tables|^\s*scheme: &S,$", "a scheme and its tables, side by side"),
         (r"ensures scheme \{ (self|guard)\.new\.scheme", "the scheme stays"),
         (r"ensures (kept|steady) \{", "blank or sound"),
+        (r"\(S\.Scheme\.meaning ([a-z.]+\.)?scheme\.now\) (t|[a-z.]+\.tables)\.now", "a scheme and its tables, in a contract"),
+        (r"Took .* × \(length", "what was read, and how long it is, side by side"),
         (r"bits: u8, number: u8", "a record's map and number, side by side"),
         (r"fn \w+<S: Sink.*>\(out: &mut S|fn \w+<S: Sink.*>\($", "a sink and what it took"),
     ],
@@ -101,8 +105,7 @@ def kept(lines, at):
     while outer > 0 and not lines[outer].startswith(("impl", "pub trait", "trait")) and lines[first].startswith(" "):
         outer -= 1
     said += list(above(lines, outer))
-    header = [l for l in lines if l.startswith("// Kept, in this file:")]
-    return bool(header) or any(l.strip().startswith("// Kept:") for l in said)
+    return any(l.strip().startswith("// Kept:") for l in said)
 
 
 def places(commit, point):

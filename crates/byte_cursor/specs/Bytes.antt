@@ -22,6 +22,12 @@ pub record Took (a b : Cursor) (xs : List ℕ) : Type 0 where
   pub place : b.place ≡ a.place + length xs
   pub split : left a ≡ xs ++ left b
 
+-- the n bytes xs were read, and the record is the same
+pub record Part (n : ℕ) (a b : Cursor) (xs : List ℕ) : Type 0 where
+  pub took : Took a b xs
+  pub size : length xs ≡ n
+  pub first : b.first ≡ a.first
+
 -- v was read from n bytes, little-endian
 pub record Number (n : ℕ) (a b : Cursor) (v : ℕ) : Type 0 where
   pub took : Took a b (le n v)

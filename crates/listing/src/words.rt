@@ -8,8 +8,7 @@ use sound::clauses::Clause;
 use tables::sets::Right;
 use tables::types::Kind;
 
-// Kept, in this file: the types are other crates', which cannot be given a Display here; a wrapper round each is longer than a function.
-
+// Kept: the type is another crate's, which cannot be given a Display here; a wrapper round it is longer than the function.
 /// What is wrong with a record, in a word or two.
 fn record_word(fault: &RecordFault) -> &'static str
     ensures { result.now ≡ word_of_record fault.now }
@@ -21,6 +20,7 @@ fn record_word(fault: &RecordFault) -> &'static str
     }
 }
 
+// Kept: as above.
 /// What is wrong with a roll, in a word or two.
 pub(crate) fn fault_word(fault: &RollFault) -> &'static str
     ensures { result.now ≡ word_of_fault fault.now }
@@ -31,6 +31,7 @@ pub(crate) fn fault_word(fault: &RollFault) -> &'static str
     }
 }
 
+// Kept: as above.
 /// The letter of a clause.
 pub(crate) fn clause_letter(clause: Clause) -> &'static str
     ensures { result.now ≡ letter_of_clause clause }
@@ -47,6 +48,7 @@ pub(crate) fn clause_letter(clause: Clause) -> &'static str
     }
 }
 
+// Kept: as above.
 /// What is wrong where a clause fails.
 pub(crate) fn clause_text(clause: Clause) -> &'static str
     ensures { result.now ≡ text_of_clause clause }
@@ -64,6 +66,7 @@ pub(crate) fn clause_text(clause: Clause) -> &'static str
     }
 }
 
+// Kept: as above.
 /// What an object is.
 pub(crate) fn kind_word(kind: Kind) -> &'static str
     ensures { result.now ≡ word_of_kind kind }
@@ -75,6 +78,7 @@ pub(crate) fn kind_word(kind: Kind) -> &'static str
     }
 }
 
+// Kept: as above.
 /// What a right lets a user do.
 pub(crate) fn right_word(right: Right) -> &'static str
     ensures { result.now ≡ word_of_right right }

@@ -187,16 +187,13 @@ pub fn read_record(c: &mut Cursor) -> Result<Record, RecordFault>
     // Kept: three kinds of records, a closed set; each arm has the room of its own table.
     match kind {
         Record::USER if number < UserRecord::ROOM && map < UserRecord::MAPS => {
-            let u = user(c, head)?;
-            Ok(Record::User(u))
+            Ok(Record::User(user(c, head)?))
         }
         Record::GROUP if number < GroupRecord::ROOM && map < GroupRecord::MAPS => {
-            let g = group(c, head)?;
-            Ok(Record::Group(g))
+            Ok(Record::Group(group(c, head)?))
         }
         Record::OBJECT if number < ObjectRecord::ROOM && map < ObjectRecord::MAPS => {
-            let o = object(c, head)?;
-            Ok(Record::Object(o))
+            Ok(Record::Object(object(c, head)?))
         }
         _ => Err(RecordFault::Form(c.first())),
     }

@@ -1,6 +1,6 @@
 //! The rights field: a map of users, then a byte for each user in it.
-ghost use Rattle.std.specs.Prelude.{◌≡◌, length, if◌then◌else◌, MatchOption, MatchResult, ◌≢◌};
-ghost use Rattle.byte_cursor.specs.Bytes.{left, Took, Short};
+ghost use Rattle.std.specs.Prelude.{◌≡◌, if◌then◌else◌, MatchOption, MatchResult, ◌≢◌};
+ghost use Rattle.byte_cursor.specs.Bytes.{left, Part, Short};
 ghost use Rattle.records.specs.Rights.{rights_size, Marked, marks_number, RightsForm, rights_body};
 
 use byte_cursor::{Cursor, CursorFault};
@@ -57,7 +57,7 @@ pub fn marks_of(rights: &[u8; 16]) -> u16
 
 /// The rights field as a part, where it is `there`: a map of users, and a byte for each user in it.
 pub fn rights_part<'a>(c: &mut Cursor<'a>, there: bool) -> Result<&'a [u8], CursorFault>
-    ensures { MatchResult result (λ p. Took c.old c.new p.now × (length p.now ≡ (if there then rights_size (left c.old) else 0)) × (c.new.first ≡ c.old.first)) (λ e. Short (if there then rights_size (left c.old) else 0) c.old c.new e) }
+    ensures { MatchResult result (λ p. Part (if there then rights_size (left c.old) else 0) c.old c.new p.now) (Short (if there then rights_size (left c.old) else 0) c.old c.new) }
 {
     if !there {
         return c.part(0);

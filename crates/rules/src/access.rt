@@ -4,7 +4,7 @@ ghost use Rattle.tables.specs.State.{user as user_of};
 ghost use Rattle.sound.specs.Nesting.{InRange};
 ghost use Rattle.rules.specs.Views.{Answers};
 
-use crate::named::parties;
+use crate::named::{may_alter, parties};
 use calls::types::{Call, Refusal};
 use labels::Scheme;
 use sound::views::View;
@@ -68,9 +68,7 @@ pub(crate) fn write<S: Scheme>(v: &View<S>, subject: u8, object: u8) -> Result<(
 {
     let (s, o) = parties(v.tables, subject, object)?;
     match o.kind {
-        Kind::File if !v.tables.has_right(s.user, o, Right::Write) => Err(Refusal::NoRight),
-        Kind::File if !v.scheme.flows(s.label, o.label) => Err(Refusal::WrongWay),
-        Kind::File => Ok(()),
+        Kind::File => may_alter(v, s, o, Right::Write),
         _ => Err(Refusal::WrongKind),
     }
 }

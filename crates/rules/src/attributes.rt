@@ -1,7 +1,7 @@
 //! The calls that set the label and the mixed mark of an object.
 ghost use Rattle.rules.specs.Views.{Answers};
 
-use crate::named::parties;
+use crate::named::{may_alter, parties};
 use crate::nests::{label_of, nests_at};
 use calls::types::{Call, Refusal};
 use labels::Scheme;
@@ -15,11 +15,7 @@ pub(crate) fn mix<S: Scheme>(v: &View<S>, subject: u8, object: u8) -> Result<(),
 {
     let (s, o) = parties(v.tables, subject, object)?;
     match o.kind {
-        Kind::Container if !v.tables.has_right(s.user, o, Right::WriteAttributes) => {
-            Err(Refusal::NoRight)
-        }
-        Kind::Container if !v.scheme.flows(s.label, o.label) => Err(Refusal::WrongWay),
-        Kind::Container => Ok(()),
+        Kind::Container => may_alter(v, s, o, Right::WriteAttributes),
         _ => Err(Refusal::WrongKind),
     }
 }
@@ -48,12 +44,7 @@ pub(crate) fn raise<S: Scheme>(
     if !v.scheme.label(label) {
         return Err(Refusal::NoLabel);
     }
-    if !v.tables.has_right(s.user, o, Right::WriteAttributes) {
-        return Err(Refusal::NoRight);
-    }
-    if !v.scheme.flows(s.label, o.label) {
-        return Err(Refusal::WrongWay);
-    }
+    may_alter(v, s, o, Right::WriteAttributes)?;
     if !v.scheme.flows(o.label, label) {
         return Err(Refusal::WrongWay);
     }

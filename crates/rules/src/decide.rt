@@ -1,6 +1,5 @@
 //! The deciding step, which every call goes through.
-ghost use Rattle.calls.specs.Calls.{Answer};
-ghost use Rattle.calls.specs.Refusals.{answer_number};
+ghost use Rattle.rules.specs.Views.{Answers};
 
 use crate::{access, attributes, grants, places};
 use calls::types::{Call, Refusal};
@@ -9,7 +8,7 @@ use sound::views::View;
 
 /// Is the call granted, or which refusal comes first?
 pub fn decide<S: Scheme>(view: &View<S>, call: Call) -> Result<(), Refusal>
-    ensures { Answer (S.Scheme.meaning view.now.scheme.now) view.now.tables.now call (answer_number result) }
+    ensures { Answers S.Scheme.meaning view.now call result }
 {
     // Kept: the calls are a closed set, and each asks something else: one match over the enum is the plain form.
     match call {

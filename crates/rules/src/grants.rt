@@ -1,7 +1,7 @@
 //! The calls that set rights and allow lists.
 ghost use Rattle.rules.specs.Views.{Answers};
 
-use crate::named::parties;
+use crate::named::{may_alter, parties};
 use calls::types::{Call, Refusal};
 use labels::Scheme;
 use sound::views::View;
@@ -23,13 +23,7 @@ pub(crate) fn rights<S: Scheme>(
     if mask >= 128 {
         return Err(Refusal::WrongKind);
     }
-    if !v.tables.has_right(s.user, o, Right::ChangeRights) {
-        return Err(Refusal::NoRight);
-    }
-    if !v.scheme.flows(s.label, o.label) {
-        return Err(Refusal::WrongWay);
-    }
-    Ok(())
+    may_alter(v, s, o, Right::ChangeRights)
 }
 
 /// A subject puts a program on the allow list of a user.

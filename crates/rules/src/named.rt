@@ -1,9 +1,13 @@
-//! The subject that makes a call, and the object that it names.
+//! The subject that makes a call, the object that it names, and what lets the one alter the other.
 ghost use Rattle.std.specs.Prelude.{◌≡◌, MatchResult};
 ghost use Rattle.calls.specs.declared.types.Refusal.TheVariants.{NobodyThere};
-ghost use Rattle.rules.specs.Parties.{Found, Missing};
+ghost use Rattle.sound.specs.Views.{seen};
+ghost use Rattle.rules.specs.Parties.{Found, Missing, Alters};
 
 use calls::types::Refusal;
+use labels::Scheme;
+use sound::views::View;
+use tables::sets::Right;
 use tables::types::{Object, Subject, Tables};
 
 /// The subject and the object that a call names, if both are there.
@@ -13,4 +17,22 @@ pub(crate) fn parties(t: &Tables, subject: u8, object: u8) -> Result<(&Subject, 
     let s = t.subject(subject).ok_or(Refusal::NobodyThere)?;
     let o = t.object(object).ok_or(Refusal::NobodyThere)?;
     Ok((s, o))
+}
+
+/// May a subject alter an object: has its user this right on it, and does its label flow to the object's?
+pub(crate) fn may_alter<S: Scheme>(
+    v: &View<S>,
+    s: &Subject,
+    o: &Object,
+    right: Right,
+) -> Result<(), Refusal>
+    ensures { seen S.Scheme.meaning v.now Alters s.now o.now right result }
+{
+    if !v.tables.has_right(s.user, o, right) {
+        return Err(Refusal::NoRight);
+    }
+    if !v.scheme.flows(s.label, o.label) {
+        return Err(Refusal::WrongWay);
+    }
+    Ok(())
 }

@@ -3,6 +3,7 @@ ghost use Rattle.std.specs.Prelude.{◌≡◌, Decides, ◌≢◌};
 ghost use Rattle.tables.specs.State.{object as object_of};
 ghost use Rattle.tables.specs.Ways.{Above};
 ghost use Rattle.sound.specs.Nesting.{Unmixed, HeldAbove, HoldsUnder, HeldOverAt};
+ghost use Rattle.sound.specs.Views.{seen};
 ghost use Rattle.calls.specs.Calls.{AllHeldAbove, Childless, Idle};
 
 use labels::Scheme;
@@ -19,7 +20,7 @@ pub(crate) fn label_of(t: &Tables, o: u8) -> u64
 
 /// If object `o` is an unmixed container, does `label` hold what lies under it?
 fn holds_inside<S: Scheme>(v: &View<S>, o: u8, label: u64) -> bool
-    ensures { Decides result (Unmixed v.now.tables.now o → HoldsUnder (S.Scheme.meaning v.now.scheme.now) v.now.tables.now o label) }
+    ensures { Decides result (Unmixed v.now.tables.now o → seen S.Scheme.meaning v.now HoldsUnder o label) }
 {
     // Kept: the guard for mixed is to be one of a match over the kind; `is_none_or` around that match was tried, and its proof didn't close.
     let Some(x) = v.tables.object(o) else {
@@ -34,14 +35,14 @@ fn holds_inside<S: Scheme>(v: &View<S>, o: u8, label: u64) -> bool
 /// Do labels nest with `label` at object `o`: does each unmixed container that it lies under hold `label`, and if it is one, does `label` hold what
 /// lies under it?
 pub(crate) fn nests_at<S: Scheme>(v: &View<S>, o: u8, label: u64) -> bool
-    ensures { Decides result (HeldOverAt (S.Scheme.meaning v.now.scheme.now) v.now.tables.now o label × (Unmixed v.now.tables.now o → HoldsUnder (S.Scheme.meaning v.now.scheme.now) v.now.tables.now o label)) }
+    ensures { Decides result (seen S.Scheme.meaning v.now HeldOverAt o label × (Unmixed v.now.tables.now o → seen S.Scheme.meaning v.now HoldsUnder o label)) }
 {
     v.held_over_at(o, label) && holds_inside(v, o, label)
 }
 
 /// Does each unmixed container that is `q` or above it hold everything under object `o`?
 fn all_fit<S: Scheme>(v: &View<S>, o: u8, q: u8) -> bool
-    ensures { Decides result (AllHeldAbove (S.Scheme.meaning v.now.scheme.now) v.now.tables.now o q) }
+    ensures { Decides result (seen S.Scheme.meaning v.now AllHeldAbove o q) }
 {
     (0..objects_end(&v.tables.objects)).all(|x| !v.tables.lies_under(x, o)
         || v.held_above(q, label_of(v.tables, x)))
@@ -50,7 +51,7 @@ fn all_fit<S: Scheme>(v: &View<S>, o: u8, q: u8) -> bool
 /// Can object `o`, labelled `label`, be put under `q`: is `q` neither `o` nor under it, and does each unmixed container that is `q` or above it
 /// hold `label` and everything under `o`?
 pub(crate) fn fits_under<S: Scheme>(v: &View<S>, o: u8, label: u64, q: u8) -> bool
-    ensures { Decides result ((Above v.now.tables.now q o → ⊥) × HeldAbove (S.Scheme.meaning v.now.scheme.now) v.now.tables.now q label × AllHeldAbove (S.Scheme.meaning v.now.scheme.now) v.now.tables.now o q) }
+    ensures { Decides result ((Above v.now.tables.now q o → ⊥) × seen S.Scheme.meaning v.now HeldAbove q label × seen S.Scheme.meaning v.now AllHeldAbove o q) }
 {
     !v.tables.is_above(o, q) && v.held_above(q, label) && all_fit(v, o, q)
 }

@@ -2,7 +2,7 @@
 ghost use Rattle.std.specs.Prelude.{◌≡◌, true, Decides};
 ghost use Rattle.rules.specs.Views.{Answers};
 
-use crate::named::parties;
+use crate::named::{may_alter, parties};
 use crate::nests::{fits_under, is_removable, label_of};
 use calls::types::{Call, Refusal};
 use labels::Scheme;
@@ -51,12 +51,7 @@ pub(crate) fn delete<S: Scheme>(v: &View<S>, subject: u8, object: u8) -> Result<
     ensures { Answers S.Scheme.meaning v.now (Call.Delete subject object) result }
 {
     let (s, o) = parties(v.tables, subject, object)?;
-    if !v.tables.has_right(s.user, o, Right::Delete) {
-        return Err(Refusal::NoRight);
-    }
-    if !v.scheme.flows(s.label, o.label) {
-        return Err(Refusal::WrongWay);
-    }
+    may_alter(v, s, o, Right::Delete)?;
     if !v.scheme.flows(s.label, label_of(v.tables, o.parent)) {
         return Err(Refusal::WrongWay);
     }

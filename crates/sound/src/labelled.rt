@@ -1,6 +1,7 @@
 //! Clause (b): all labels are labels of the scheme, and each floor flows to its top.
 ghost use Rattle.std.specs.Prelude.{Decides};
 ghost use Rattle.sound.specs.Sound.{Labelled, RangeStands};
+ghost use Rattle.sound.specs.Views.{seen};
 
 use crate::views::View;
 use labels::Scheme;
@@ -16,7 +17,7 @@ impl<S: Scheme> View<'_, S> {
 
     /// Are all labels labels of the scheme, and does each floor flow to its top?
     pub(crate) fn labels_hold(&self) -> bool
-        ensures { Decides result (Labelled (S.Scheme.meaning self.now.scheme.now) self.now.tables.now) }
+        ensures { Decides result (seen S.Scheme.meaning self.now Labelled) }
     {
         let (scheme, t) = (self.scheme, self.tables);
         t.users.iter().flatten().all(|x| self.range_stands(x))

@@ -3,6 +3,7 @@ ghost use Rattle.std.specs.Prelude.{◌≡◌, true, Decides};
 ghost use Rattle.tables.specs.State.{object};
 ghost use Rattle.tables.specs.Ways.{Under};
 ghost use Rattle.sound.specs.Nesting.{Unmixed, Holds, HeldAbove, HoldsUnder, HeldOver, HeldOverAt, Nested};
+ghost use Rattle.sound.specs.Views.{seen};
 
 use crate::ends::objects_end;
 use crate::views::View;
@@ -12,7 +13,7 @@ use tables::types::Kind;
 impl<S: Scheme> View<'_, S> {
     /// Does `a` hold label `l`, if it is an unmixed container?
     fn held_at(&self, a: u8, l: u64) -> bool
-        ensures { Decides result (Unmixed self.now.tables.now a → Holds (S.Scheme.meaning self.now.scheme.now) self.now.tables.now a l) }
+        ensures { Decides result (Unmixed self.now.tables.now a → seen S.Scheme.meaning self.now Holds a l) }
     {
         self.tables.object(a).is_none_or(|x| {
             x.kind != Kind::Container || x.mixed || self.scheme.holds(x.label, l)
@@ -22,7 +23,7 @@ impl<S: Scheme> View<'_, S> {
     /// Does each unmixed container that is `p` or above it hold label `l`? The shortest way up visits no slot twice, so more steps than
     /// slots lead nowhere new.
     pub fn held_above(&self, p: u8, l: u64) -> bool
-        ensures { Decides result (HeldAbove (S.Scheme.meaning self.now.scheme.now) self.now.tables.now p l) }
+        ensures { Decides result (seen S.Scheme.meaning self.now HeldAbove p l) }
     {
         if !self.held_at(p, l) {
             return false;
@@ -55,14 +56,14 @@ impl<S: Scheme> View<'_, S> {
 
     /// Does label `l` hold the label of every object under `o`?
     pub fn holds_under(&self, o: u8, l: u64) -> bool
-        ensures { Decides result (HoldsUnder (S.Scheme.meaning self.now.scheme.now) self.now.tables.now o l) }
+        ensures { Decides result (seen S.Scheme.meaning self.now HoldsUnder o l) }
     {
         (0..objects_end(&self.tables.objects)).all(|x| self.holds_one(o, l, x))
     }
 
     /// Does each unmixed container that object `o` lies under hold `label`?
     pub fn held_over_at(&self, o: u8, label: u64) -> bool
-        ensures { Decides result (HeldOverAt (S.Scheme.meaning self.now.scheme.now) self.now.tables.now o label) }
+        ensures { Decides result (seen S.Scheme.meaning self.now HeldOverAt o label) }
     {
         if o == 0 {
             return true;
@@ -76,7 +77,7 @@ impl<S: Scheme> View<'_, S> {
 
     /// Does each unmixed container over object `x` hold its label?
     fn held_over(&self, x: u8) -> bool
-        ensures { Decides result (HeldOver (S.Scheme.meaning self.now.scheme.now) self.now.tables.now x) }
+        ensures { Decides result (seen S.Scheme.meaning self.now HeldOver x) }
     {
         // Kept: as above.
         let Some(object) = self.tables.object(x) else {
@@ -87,7 +88,7 @@ impl<S: Scheme> View<'_, S> {
 
     /// Does each unmixed container hold the label of every object under it, at any depth?
     pub fn labels_nest(&self) -> bool
-        ensures { Decides result (Nested (S.Scheme.meaning self.now.scheme.now) self.now.tables.now) }
+        ensures { Decides result (seen S.Scheme.meaning self.now Nested) }
     {
         (0..objects_end(&self.tables.objects)).all(|x| self.held_over(x))
     }

@@ -2,6 +2,7 @@
 ghost use Rattle.std.specs.Prelude.{Decides};
 ghost use Rattle.std.specs.Option.{MatchOption};
 ghost use Rattle.sound.specs.Sound.{Holding, Sound, FirstFailing};
+ghost use Rattle.sound.specs.Views.{seen};
 
 use crate::administrators::administrator_exists;
 use crate::clauses::Clause;
@@ -16,7 +17,7 @@ use labels::Scheme;
 impl<S: Scheme> View<'_, S> {
     /// Does this clause hold?
     fn holds(&self, clause: Clause) -> bool
-        ensures { Decides result (Holding clause (S.Scheme.meaning self.now.scheme.now) self.now.tables.now) }
+        ensures { Decides result (seen S.Scheme.meaning self.now (Holding clause)) }
     {
         // Kept: the clauses are a closed set, and each asks something else.
         match clause {
@@ -33,7 +34,7 @@ impl<S: Scheme> View<'_, S> {
 
     /// The first clause of soundness that fails: none if the tables are sound.
     pub fn first_failing(&self) -> Option<Clause>
-        ensures { MatchOption result (Sound (S.Scheme.meaning self.now.scheme.now) self.now.tables.now) (FirstFailing (S.Scheme.meaning self.now.scheme.now) self.now.tables.now) }
+        ensures { MatchOption result (seen S.Scheme.meaning self.now Sound) (seen S.Scheme.meaning self.now FirstFailing) }
     {
         Clause::ALL.into_iter().find(|clause| !self.holds(*clause))
     }

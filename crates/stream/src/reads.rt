@@ -20,7 +20,7 @@ struct Arguments {
     label: u64,
 }
 
-// Kept, in this file: matches over the number that the format has for a call; an enum of them would be a third list of the same fourteen.
+// Kept: a match over the number that the format has for a call; an enum of them would be a third list of the same fourteen.
 /// The map with the label's bit at bit 4, behind those of four bytes: `None` where no call has the number, or a bit stands for no argument.
 fn full_map(number: u8, bits: u8) -> Option<u8>
     ensures { MatchOption result (Known number bits → ⊥) (λ m. Known number bits × (m ≡ spread_map (kept number) bits)) }
@@ -67,6 +67,7 @@ impl Arguments {
             + 16 * u8::from(self.label != 0)
     }
 
+    // Kept: as at `full_map`.
     /// The call with a known number and these arguments, none of which is a label.
     fn byte_call(&self, number: u8) -> Call
         ensures { result ≡ byte_call_of number (listed self.now) }
@@ -103,6 +104,7 @@ impl Arguments {
         }
     }
 
+    // Kept: as at `full_map`.
     /// The call with a known number and these arguments.
     fn call(&self, number: u8) -> Call
         ensures { result ≡ call_of number (listed self.now) }
@@ -151,6 +153,7 @@ fn read_call(c: &mut Cursor) -> Result<Call, CallFault>
     Ok(a.call(number))
 }
 
+// Kept: a function and no iterator: an iterator of calls has to end behind a bad one, so it would carry a mark beside its cursor.
 /// The next call, or `None` at the end of the bytes. A call that was written is read back.
 pub fn next_call(c: &mut Cursor) -> Option<Result<Call, CallFault>>
     ensures next { MatchOption result ((left c.old ≡ []) × (c.new ≡ c.old)) (λ q. (0 < length (left c.old)) × MatchResult q (λ x. InForm x × Took c.old c.new (encode x)) (Faulty c.old.place (left c.old))) }

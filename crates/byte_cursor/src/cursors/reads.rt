@@ -1,6 +1,6 @@
 //! What a cursor reads.
 ghost use Rattle.std.specs.Prelude.{◌≡◌, [], length, if◌then◌else◌, MatchResult, ◌==◌};
-ghost use Rattle.byte_cursor.specs.Bytes.{left, Took, Short, Number, Field};
+ghost use Rattle.byte_cursor.specs.Bytes.{left, Took, Part, Short, Number, Field};
 
 use super::{Cursor, CursorFault};
 use crate::little::Little;
@@ -50,7 +50,7 @@ impl<'a> Cursor<'a> {
 
     /// The next `n` bytes.
     pub fn part(&mut self, n: usize) -> Result<&'a [u8], CursorFault>
-        ensures { MatchResult result (λ p. Took self.old self.new p.now × (length p.now ≡ n) × (self.new.first ≡ self.old.first)) (λ e. Short n self.old self.new e) }
+        ensures { MatchResult result (λ p. Part n self.old self.new p.now) (Short n self.old self.new) }
     {
         let (front, _) = self.left().split_at_checked(n).ok_or(self.fault())?;
         self.place += n;
@@ -59,7 +59,7 @@ impl<'a> Cursor<'a> {
 
     /// The next `N` bytes.
     pub fn array<const N: usize>(&mut self) -> Result<&'a [u8; N], CursorFault>
-        ensures { MatchResult result (λ p. Took self.old self.new p.now × (length p.now ≡ N) × (self.new.first ≡ self.old.first)) (λ e. Short N self.old self.new e) }
+        ensures { MatchResult result (λ p. Part N self.old self.new p.now) (Short N self.old self.new) }
     {
         let (front, _) = self.left().split_first_chunk().ok_or(self.fault())?;
         self.place += N;

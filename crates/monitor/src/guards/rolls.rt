@@ -23,10 +23,9 @@ fn load_tables<S: Scheme>(scheme: &S, bytes: &[u8]) -> Result<Tables, RollFault>
         scheme,
         tables: &tables,
     };
-    match view.first_failing() {
-        None => Ok(tables),
-        Some(clause) => Err(RollFault::Unsound(clause, bytes.len())),
-    }
+    view.first_failing().map_or(Ok(tables), |clause| {
+        Err(RollFault::Unsound(clause, bytes.len()))
+    })
 }
 
 // Kept: blank or sound is said of `new` and `load` each, since no type can say it (see `Guard`); the scheme that stays is a clause of `load` alone.

@@ -16,14 +16,14 @@ returns-in_err-rights c =
     let told = rw c.in_err-rights.ensures.ok_part at c.in_err-rights.ensures.value in
     let v : c.in_err-rights.field-0.0 ≡ Form c.first.result = cc told in
     rw (p.1, p.2, v)
-    (object_unwritten c.args.head.map c.args.head.number c.in_ok-parent.ensures c.in_ok-kind.ensures c.in_ok-owner.ensures c.in_ok-label.ensures c.in_ok-groups.ensures c.in_ok-part.ensures.0 (part_long _ c.has.ensures c.in_ok-part.ensures.1) c.first.result c.first.ensures c.in_ok-part.ensures.2 unread)
+    (object_unwritten c.args.head.map c.args.head.number c.in_ok-parent.ensures c.in_ok-kind.ensures c.in_ok-owner.ensures c.in_ok-label.ensures c.in_ok-groups.ensures c.in_ok-part.ensures.took (part_long _ c.has.ensures c.in_ok-part.ensures.size) c.first.result c.first.ensures c.in_ok-part.ensures.first unread)
 
 pub returns-then-object_map-head : goal.returns-then-object_map-head
 returns-then-object_map-head c =
     let read = rw c.in_ok-rights.ensures.ok_part at c.read_rights.ensures in
-    object_unlike c.args.head.map c.args.head.number c.in_ok-parent.ensures c.in_ok-kind.ensures c.in_ok-owner.ensures c.in_ok-label.ensures c.in_ok-groups.ensures c.in_ok-part.ensures.0 (part_long _ c.has.ensures c.in_ok-part.ensures.1) c.in_ok-rights.rights read.0 read.1 c.has-2.ensures c.object_map.ensures c.first-then-object_map-head.result c.first-then-object_map-head.ensures c.in_ok-part.ensures.2 c.then-object_map-head.either
+    object_unlike c.args.head.map c.args.head.number c.in_ok-parent.ensures c.in_ok-kind.ensures c.in_ok-owner.ensures c.in_ok-label.ensures c.in_ok-groups.ensures c.in_ok-part.ensures.took (part_long _ c.has.ensures c.in_ok-part.ensures.size) c.in_ok-rights.rights read.0 read.1 c.has-2.ensures c.object_map.ensures c.first-then-object_map-head.result c.first-then-object_map-head.ensures c.in_ok-part.ensures.first c.then-object_map-head.either
 
 pub returns : goal.returns
 returns c =
     let read = rw c.in_ok-rights.ensures.ok_part at c.read_rights.ensures in
-    object_read c.args.head.map c.args.head.number c.in_ok-parent.ensures c.in_ok-kind.ensures c.in_ok-owner.ensures c.in_ok-label.ensures c.in_ok-groups.ensures c.in_ok-part.ensures.0 (part_long _ c.has.ensures c.in_ok-part.ensures.1) c.in_ok-rights.rights read.0 read.1 c.has-2.ensures c.object_map.ensures c.if-object_map-head.false c.if-kind-gt-LAST_KIND.false
+    object_read c.args.head.map c.args.head.number c.in_ok-parent.ensures c.in_ok-kind.ensures c.in_ok-owner.ensures c.in_ok-label.ensures c.in_ok-groups.ensures c.in_ok-part.ensures.took (part_long _ c.has.ensures c.in_ok-part.ensures.size) c.in_ok-rights.rights read.0 read.1 c.has-2.ensures c.object_map.ensures c.if-object_map-head.false c.if-kind-gt-LAST_KIND.false

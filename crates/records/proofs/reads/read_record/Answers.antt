@@ -5,31 +5,31 @@ use Rattle.records.proofs.Heads.{head_read, as_kind, unknown, failed, no_table, 
 use Rattle.records.proofs.reads.read_record.Goals as goal
 use Rattle.records.proofs.reads.read_record.Goals.{in_default-via-in-1+then-number-lt-ROOM+else-map-lt-MAPS, in_default-via-in-1+else-number-lt-ROOM, in_default-via-in-2+then-number-lt-ROOM-2+else-map-lt-MAPS-2, in_default-via-in-2+else-number-lt-ROOM-2, in_default-via-in-3+then-number-lt-ROOM-3+else-map-lt-MAPS-3, in_default-via-in-3+else-number-lt-ROOM-3, in_default-via-in_default-1}
 
-pub returns-in_err-u-in-1 : goal.returns-in_err-u-in-1
-returns-in_err-u-in-1 c =
-    let p = err_from_is_err_and c.from_residual-in_err-u-in-1.result c.from_residual-in_err-u-in-1.ensures.1 in
+pub returns-in_err-user-in-1 : goal.returns-in_err-user-in-1
+returns-in_err-user-in-1 c =
+    let p = err_from_is_err_and c.from_residual-in_err-user-in-1.result c.from_residual-in_err-user-in-1.ensures.1 in
     let t = c.in_ok-map.ensures in
-    let h = as_kind c.in-1.is (head_read c.in_ok-map.field-0.now c.begin.ensures.nothing c.begin.ensures.first t.0 t.1 t.2) in
-    rw (p.1, p.2) (failed h users c.if-number-lt-ROOM.true c.if-map-lt-MAPS.true refl (user_only _ _ _) c.in_err-u-in-1.field-0.0 c.in_err-u-in-1.ensures)
+    let h = as_kind c.in-1.is (head_read c.in_ok-map.field-0.now c.begin.ensures.nothing c.begin.ensures.first t.took t.size t.first) in
+    rw (p.1, p.2) (failed h users c.if-number-lt-ROOM.true c.if-map-lt-MAPS.true refl (user_only _ _ _) c.in_err-user-in-1.field-0.0 c.in_err-user-in-1.ensures)
 
-pub returns-in_err-g-in-2 : goal.returns-in_err-g-in-2
-returns-in_err-g-in-2 c =
-    let p = err_from_is_err_and c.from_residual-in_err-g-in-2.result c.from_residual-in_err-g-in-2.ensures.1 in
+pub returns-in_err-group-in-2 : goal.returns-in_err-group-in-2
+returns-in_err-group-in-2 c =
+    let p = err_from_is_err_and c.from_residual-in_err-group-in-2.result c.from_residual-in_err-group-in-2.ensures.1 in
     let t = c.in_ok-map.ensures in
-    let h = as_kind c.in-2.is (head_read c.in_ok-map.field-0.now c.begin.ensures.nothing c.begin.ensures.first t.0 t.1 t.2) in
-    rw (p.1, p.2) (failed h groups c.if-number-lt-ROOM-2.true c.if-map-lt-MAPS-2.true refl (group_only _ _ _) c.in_err-g-in-2.field-0.0 c.in_err-g-in-2.ensures)
+    let h = as_kind c.in-2.is (head_read c.in_ok-map.field-0.now c.begin.ensures.nothing c.begin.ensures.first t.took t.size t.first) in
+    rw (p.1, p.2) (failed h groups c.if-number-lt-ROOM-2.true c.if-map-lt-MAPS-2.true refl (group_only _ _ _) c.in_err-group-in-2.field-0.0 c.in_err-group-in-2.ensures)
 
-pub returns-in_err-o-in-3 : goal.returns-in_err-o-in-3
-returns-in_err-o-in-3 c =
-    let p = err_from_is_err_and c.from_residual-in_err-o-in-3.result c.from_residual-in_err-o-in-3.ensures.1 in
+pub returns-in_err-object-in-3 : goal.returns-in_err-object-in-3
+returns-in_err-object-in-3 c =
+    let p = err_from_is_err_and c.from_residual-in_err-object-in-3.result c.from_residual-in_err-object-in-3.ensures.1 in
     let t = c.in_ok-map.ensures in
-    let h = as_kind c.in-3.is (head_read c.in_ok-map.field-0.now c.begin.ensures.nothing c.begin.ensures.first t.0 t.1 t.2) in
-    rw (p.1, p.2) (failed h objects c.if-number-lt-ROOM-3.true c.if-map-lt-MAPS-3.true refl (object_only _ _ _) c.in_err-o-in-3.field-0.0 c.in_err-o-in-3.ensures)
+    let h = as_kind c.in-3.is (head_read c.in_ok-map.field-0.now c.begin.ensures.nothing c.begin.ensures.first t.took t.size t.first) in
+    rw (p.1, p.2) (failed h objects c.if-number-lt-ROOM-3.true c.if-map-lt-MAPS-3.true refl (object_only _ _ _) c.in_err-object-in-3.field-0.0 c.in_err-object-in-3.ensures)
 
 pub returns-in_default : goal.returns-in_default
 returns-in_default c =
     let t = c.in_ok-map.ensures in
-    let h = head_read c.in_ok-map.field-0.now c.begin.ensures.nothing c.begin.ensures.first t.0 t.1 t.2 in
+    let h = head_read c.in_ok-map.field-0.now c.begin.ensures.nothing c.begin.ensures.first t.took t.size t.first in
     unknown h
     (λ a b. elim c.in_default.branch [
       | in_default-via-in-1+then-number-lt-ROOM+else-map-lt-MAPS w ↦ omega (arith, w.if-map-lt-MAPS.false, maps_at (get_or c.in_ok-map.field-0.now 1 0) 1 w.in-1.is b)

@@ -11,7 +11,7 @@ use Rattle.stream.proofs.reads.read_call.Goals as goal
 pub returns-in_err-map : goal.returns-in_err-map
 returns-in_err-map c =
     let t = c.in_ok-bits.ensures in
-    let h = head_read c.in_ok-bits.field-0.now c.begin.ensures.nothing c.begin.ensures.first t.0 t.1 t.2 in
+    let h = head_read c.in_ok-bits.field-0.now c.begin.ensures.nothing c.begin.ensures.first t.took t.size t.first in
     let p = err_from_is_err_and c.from_residual-in_err-map.result c.from_residual-in_err-map.ensures.1 in
     let none = rw c.in_err-map.ensures.ok_part at c.full_map.ensures in
     let told = rw c.in_err-map.ensures.ok_part at c.in_err-map.ensures.value in
@@ -21,7 +21,7 @@ returns-in_err-map c =
 pub returns-in_err-a : goal.returns-in_err-a
 returns-in_err-a c =
     let t = c.in_ok-bits.ensures in
-    let h = head_read c.in_ok-bits.field-0.now c.begin.ensures.nothing c.begin.ensures.first t.0 t.1 t.2 in
+    let h = head_read c.in_ok-bits.field-0.now c.begin.ensures.nothing c.begin.ensures.first t.took t.size t.first in
     let k = rw c.in_ok-map.ensures.ok_part at c.full_map.ensures in
     let p = err_from_is_err_and c.from_residual-in_err-a.result c.from_residual-in_err-a.ensures.1 in
     let s = c.in_err-a.ensures in
@@ -30,7 +30,7 @@ returns-in_err-a c =
 pub returns-then-map : goal.returns-then-map
 returns-then-map c =
     let t = c.in_ok-bits.ensures in
-    let h = head_read c.in_ok-bits.field-0.now c.begin.ensures.nothing c.begin.ensures.first t.0 t.1 t.2 in
+    let h = head_read c.in_ok-bits.field-0.now c.begin.ensures.nothing c.begin.ensures.first t.took t.size t.first in
     let k = rw c.in_ok-map.ensures.ok_part at c.full_map.ensures in
     let r = c.in_ok-a.ensures in
     let a = c.array.new.self in
@@ -43,7 +43,7 @@ returns-then-map c =
 pub returns : goal.returns
 returns c =
     let t = c.in_ok-bits.ensures in
-    let h = head_read c.in_ok-bits.field-0.now c.begin.ensures.nothing c.begin.ensures.first t.0 t.1 t.2 in
+    let h = head_read c.in_ok-bits.field-0.now c.begin.ensures.nothing c.begin.ensures.first t.took t.size t.first in
     let k = rw c.in_ok-map.ensures.ok_part at c.full_map.ensures in
     let r = c.in_ok-a.ensures in
     let a = c.array.new.self in
