@@ -19,6 +19,7 @@ pub(crate) fn parties(t: &Tables, subject: u8, object: u8) -> Result<(&Subject, 
     Ok((s, o))
 }
 
+// Kept: the two tests, one behind the other, stand here once for five calls.
 /// May a subject alter an object: has its user this right on it, and does its label flow to the object's?
 pub(crate) fn may_alter<S: Scheme>(
     v: &View<S>,
