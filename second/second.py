@@ -1,419 +1,450 @@
-#!/usr/bin/env python3
-"""A second version of the guard, written from docs/ alone: schemes, roll, soundness, the fourteen calls and the run.
+"""A second guard, written from the documentation alone, to be compared with the proved one.
 
     second.py house|old ROLLFILE < CALLS
 
-It prints what the programs `guard` and `old_guard` print. Labels are tuples of parts, sets are Python sets, tables are dictionaries;
-nothing is a bit mask once it has been read.
+prints what the programs guard and old_guard print. Nothing here is fast: each rule is worked out anew, in the words of the page
+that states it. Once read from bytes, a set is a set: of numbers for groups, users and lists, of words for rights.
 """
-import os
+
 import sys
+from dataclasses import dataclass
+from pathlib import Path
 
-RIGHTS = ['read', 'write', 'create', 'delete', 'change rights', 'execute', 'write attributes']
-CONTAINER, FILE, PROGRAM = 'container', 'file', 'program'
-KINDS = [CONTAINER, FILE, PROGRAM]
-
-
-# ---- label schemes: a label is read from its number into parts, or is None where the number is no label
-
-class House:
-    """secrecy level and categories, trust level and categories: 16 bits each, from the lowest"""
-    @staticmethod
-    def read(number):
-        a, b, c, d = ((number >> shift) & 0xffff for shift in (0, 16, 32, 48))
-        if a > 2 or c > 2 or b > 255 or d > 255:
-            return None
-        return a, {i for i in range(8) if b >> i & 1}, c, {i for i in range(8) if d >> i & 1}
-
-    @staticmethod
-    def flows(x, y):
-        # to more secrecy, and to less trust
-        return x[0] <= y[0] and x[1] <= y[1] and y[2] <= x[2] and y[3] <= x[3]
-
-    @staticmethod
-    def holds(p, c):
-        return c[0] <= p[0] and c[1] <= p[1] and c[2] <= p[2] and c[3] <= p[3]
-
-
-class Old:
-    """integrity from 0, untrusted, to 4, system"""
-    @staticmethod
-    def read(number):
-        return (number,) if number <= 4 else None
-
-    @staticmethod
-    def flows(x, y):
-        return y[0] <= x[0]
-
-    @staticmethod
-    def holds(p, c):
-        return c[0] <= p[0]
-
-
-class Scheme:
-    def __init__(self, kind):
-        self.kind = kind
-
-    def label(self, n):
-        return self.kind.read(n) is not None
-
-    def flows(self, a, b):
-        x, y = self.kind.read(a), self.kind.read(b)
-        return x is not None and y is not None and self.kind.flows(x, y)
-
-    def holds(self, p, c):
-        x, y = self.kind.read(p), self.kind.read(c)
-        return x is not None and y is not None and self.kind.holds(x, y)
-
-
-# ---- reading bytes
 
 class Fault(Exception):
+    """What is wrong with a roll or a call: 11 cut short, 12 bad form, 13 out of order, 14 unsound (only then with a clause)."""
+
     def __init__(self, number, place, clause=None):
         super().__init__(number, place, clause)
         self.number, self.place, self.clause = number, place, clause
 
 
-def members(number, count):
-    return {i for i in range(count) if number >> i & 1}
+# ---- Numbers, bytes and sets ----
+
+def members(number):
+    """The set that a number stands for: i is in it if the binary digit that counts 2^i is 1."""
+    return frozenset(i for i, digit in enumerate(reversed(f'{number:b}')) if digit == '1')
+
+def number_of(numbers):
+    """The number that stands for a set."""
+    return sum(2 ** i for i in numbers)
 
 
-class Bytes:
+class Reader:
+    """Takes numbers from bytes, little-endian. A fault carries the place where the record or call that is being read begins."""
+
     def __init__(self, data):
-        self.data, self.at = data, 0
+        self.data, self.at, self.begin = bytes(data), 0, 0
 
     def more(self):
+        """Is there a further record or call? It begins here."""
+        self.begin = self.at
         return self.at < len(self.data)
 
-    def take(self, n, start):
-        if self.at + n > len(self.data):
-            raise Fault(11, start)
-        piece = self.data[self.at:self.at + n]
-        self.at += n
-        return piece
+    def take(self, size):
+        piece = self.data[self.at:self.at + size]
+        self.insist(len(piece) == size, 11)
+        self.at += size
+        return int.from_bytes(piece, 'little')
+
+    def insist(self, so, number):
+        if not so:
+            raise Fault(number, self.begin)
 
 
-# fields of a record by its kind: (name, bytes); None: no bytes, the bit is the value; 'users': a map of users, then a byte for each
+# ---- Labels (LABELS.md) ----
+
+@dataclass(frozen=True)
+class House:
+    """A house label: secrecy level and categories, trust level and categories."""
+    secrecy: int
+    secret: frozenset
+    trust: int
+    trusted: frozenset
+
+    @classmethod
+    def of(cls, number):
+        """The label with this number, or None if there is none: a and c are at most 2, b and d below 256."""
+        a, b, c, d = (number // 65536 ** part % 65536 for part in range(4))
+        return cls(a, members(b), c, members(d)) if a <= 2 and b < 256 and c <= 2 and d < 256 else None
+
+    def flows(self, other):
+        """The other is at least as secret and at most as trusted."""
+        return (other.secrecy >= self.secrecy and other.secret >= self.secret
+                and other.trust <= self.trust and other.trusted <= self.trusted)
+
+    def holds(self, other):
+        """The other is at most as secret and at most as trusted."""
+        return (other.secrecy <= self.secrecy and other.secret <= self.secret
+                and other.trust <= self.trust and other.trusted <= self.trusted)
+
+
+@dataclass(frozen=True)
+class Old:
+    """An old label: an integrity level from 0 to 4, where greater is more trusted."""
+    integrity: int
+
+    @classmethod
+    def of(cls, number):
+        return cls(number) if number <= 4 else None
+
+    def flows(self, other):
+        """The other is at most as trusted."""
+        return other.integrity <= self.integrity
+
+    holds = flows
+
+
+class Scheme:
+    """The three questions, on numbers. A question about a number that is no label answers no."""
+
+    def __init__(self, kind):
+        self.kind = kind
+
+    def label(self, n):
+        return self.kind.of(n) is not None
+
+    def flows(self, a, b):
+        return self.label(a) and self.label(b) and self.kind.of(a).flows(self.kind.of(b))
+
+    def holds(self, p, c):
+        return self.label(p) and self.label(c) and self.kind.of(p).holds(self.kind.of(c))
+
+
+# ---- What the tables are made of (TABLES.md) ----
+
+CONTAINER, FILE, PROGRAM = 0, 1, 2
+RIGHTS = ('read', 'write', 'create', 'delete', 'change rights', 'execute', 'write attributes')
+USERS, GROUPS, SUBJECTS, OBJECTS = range(16), range(16), range(32), range(64)
+
+def rights_of(byte):
+    return frozenset(RIGHTS[i] for i in members(byte))
+
+def byte_of(rights):
+    return number_of(RIGHTS.index(right) for right in rights)
+
+
+# ---- The roll (ROLL.md) ----
+
+RECORDS = {1: USERS, 2: GROUPS, 3: OBJECTS}
 FIELDS = {
-    1: [('admin', None), ('groups', 2), ('allowed', 8), ('floor', 8), ('top', 8)],
+    1: [('administrator', None), ('groups', 2), ('allow', 8), ('floor', 8), ('top', 8)],
     2: [('role', 1)],
     3: [('parent', 1), ('kind', 1), ('owner', 1), ('label', 8), ('mixed', None), ('groups', 2), ('rights', 'users')],
 }
-ROOM = {1: 16, 2: 16, 3: 64}
+
+# What the number of a field means, and back. The other fields mean their number.
+MEANING = {'administrator': bool, 'mixed': bool, 'groups': members, 'allow': members, 'role': rights_of,
+           'rights': lambda raw: {user: rights_of(byte) for user, byte in raw.items()}}
+WRITTEN = {'groups': number_of, 'allow': number_of, 'role': byte_of,
+           'rights': lambda sets: {user: byte_of(rights) for user, rights in sets.items()}}
+
+def read_field(reader, size):
+    """The number of a field that is present. A mark takes no bytes; the rights field gives a number for each user in its map."""
+    if size is None:
+        return 1
+    if size == 'users':
+        return {user: reader.take(1) for user in sorted(members(reader.take(2)))}
+    return reader.take(size)
+
+def in_form(name, raw):
+    """Is a field that is present in form? Neither it nor a byte of rights is zero; a kind is at most 2; rights have no bit 7."""
+    if name == 'rights':
+        return raw != {} and all(byte != 0 and 7 not in members(byte) for byte in raw.values())
+    return raw != 0 and (name != 'role' or 7 not in members(raw)) and (name != 'kind' or raw <= 2)
+
+def read_record(reader):
+    """One record as kind, number, entry. The tests stand in the order that the page gives them; the fifth is in read_roll."""
+    bits, kind, number = members(reader.take(1)), reader.take(1), reader.take(1)            # 1: three bytes are there
+    reader.insist(kind in RECORDS and number in RECORDS[kind], 12)                          # 2: kind, number, bits are known
+    fields = FIELDS[kind]
+    reader.insist(all(bit < len(fields) for bit in bits), 12)
+    present = {fields[bit][0]: read_field(reader, fields[bit][1]) for bit in sorted(bits)}  # 3: the fields are there
+    reader.insist(all(in_form(name, raw) for name, raw in present.items()), 12)             # 4: the fields are in form
+    zero = {name: {} if size == 'users' else 0 for name, size in fields}                    # a field that is absent is zero
+    return kind, number, {name: MEANING.get(name, int)(raw) for name, raw in {**zero, **present}.items()}
+
+def read_roll(roll):
+    """The tables that a roll says, by the kinds of records."""
+    said = {kind: {} for kind in RECORDS}
+    reader, before = Reader(roll), None
+    while reader.more():
+        kind, number, entry = read_record(reader)
+        reader.insist(before is None or (kind, number) > before, 13)                        # 5: it is in order
+        before = (kind, number)
+        said[kind][number] = entry
+    return said
+
+def write_field(size, raw):
+    if size is None:
+        return b''
+    if size == 'users':
+        return number_of(raw).to_bytes(2, 'little') + bytes(raw[user] for user in sorted(raw))
+    return raw.to_bytes(size, 'little')
+
+def write_record(kind, number, entry):
+    """The bytes of a record: only the fields that are not zero are written."""
+    bits, body = set(), b''
+    for bit, (name, size) in enumerate(FIELDS[kind]):
+        raw = WRITTEN.get(name, int)(entry[name])
+        if raw not in (0, {}):
+            bits.add(bit)
+            body += write_field(size, raw)
+    return bytes([number_of(bits), kind, number]) + body
 
 
-def read_record(b):
-    start = b.at
-    bits, kind, number = b.take(3, start)
-    if kind not in FIELDS or number >= ROOM[kind] or bits >> len(FIELDS[kind]):
-        raise Fault(12, start)
-    values, pieces = {}, []
-    for i, (name, size) in enumerate(FIELDS[kind]):
-        there = bool(bits >> i & 1)
-        if size is None:
-            values[name] = there
-        elif not there:
-            values[name] = {} if size == 'users' else 0
-        elif size == 'users':
-            users = sorted(members(int.from_bytes(b.take(2, start), 'little'), 16))
-            given = b.take(len(users), start)
-            values[name] = dict(zip(users, given))
-            pieces.append((name, values[name]))
-        else:
-            values[name] = int.from_bytes(b.take(size, start), 'little')
-            pieces.append((name, values[name]))
-    for name, value in pieces:
-        # a present field or rights byte is not zero
-        if name == 'rights':
-            if not value or any(x == 0 or x >= 128 for x in value.values()):
-                raise Fault(12, start)
-        elif value == 0 or (name == 'kind' and value > 2) or (name == 'role' and value >= 128):
-            raise Fault(12, start)
-    return kind, number, values
+# ---- The tables and when they are sound (TABLES.md) ----
 
+class Tables:
+    """The four tables under a label scheme: each a dictionary from the numbers of the slots that are not empty to their entries."""
 
-def read_roll(data):
-    b, last = Bytes(data), (0, 0)
-    users, groups, objects = {}, {}, {}
-    while b.more():
-        start = b.at
-        kind, number, v = read_record(b)
-        if (kind, number) <= last and last != (0, 0):
-            raise Fault(13, start)
-        last = (kind, number)
-        if kind == 1:
-            users[number] = dict(admin=v['admin'], groups=members(v['groups'], 16), allowed=members(v['allowed'], 64),
-                                 floor=v['floor'], top=v['top'])
-        elif kind == 2:
-            groups[number] = {RIGHTS[i] for i in members(v['role'], 7)}
-        else:
-            objects[number] = dict(kind=KINDS[v['kind']], parent=v['parent'], owner=v['owner'], label=v['label'], mixed=v['mixed'],
-                                   groups=members(v['groups'], 16),
-                                   rights={u: {RIGHTS[i] for i in members(m, 7)} for u, m in v['rights'].items()})
-    return users, groups, objects
-
-
-# ---- the state
-
-class Guard:
-    def __init__(self, scheme, roll):
+    def __init__(self, scheme):
         self.scheme = scheme
-        self.users, self.groups, self.objects = read_roll(roll)
-        self.subjects = {}
-        clause = self.first_failing()
-        if clause:
-            raise Fault(14, len(roll), clause)
+        self.users, self.groups, self.subjects, self.objects = {}, {}, {}, {}
 
-    # the containers that an object lies under, at any depth
+    def in_range(self, label, user):
+        """The user's floor flows to the label, and the label to the user's top."""
+        entry = self.users[user]
+        return self.scheme.flows(entry['floor'], label) and self.scheme.flows(label, entry['top'])
+
+    def has_right(self, user, right, o):
+        """Owner, administrator, the object's set for the user, or the role of a group of both."""
+        entry, who = self.objects[o], self.users[user]
+        if entry['owner'] == user or who['administrator'] or right in entry['rights'].get(user, frozenset()):
+            return True
+        return any(right in self.groups[group]['role'] for group in who['groups'] & entry['groups'])
+
     def over(self, o):
-        seen = []
-        while o != 0 and o in self.objects:
+        """What an object lies under: its parent, and what its parent lies under; the root lies under nothing."""
+        found = set()
+        while o != 0 and o in self.objects and self.objects[o]['parent'] not in found:
             o = self.objects[o]['parent']
-            if o in seen:
-                break
-            seen.append(o)
-        return seen
+            found.add(o)
+        return found
 
-    def above(self, p):
-        return [p] + self.over(p)
-
-    def below(self, o):
-        return [x for x in self.objects if o in self.over(x)]
-
-    def unmixed(self, o):
-        x = self.objects.get(o)
-        return x is not None and x['kind'] == CONTAINER and not x['mixed']
-
-    def held(self, containers, label):
-        return all(self.scheme.holds(self.objects[a]['label'], label) for a in containers if self.unmixed(a))
+    def under(self, p):
+        """The objects that lie under p, at any depth."""
+        return {o for o in self.objects if p in self.over(o)}
 
     def is_kind(self, o, kind):
         return o in self.objects and self.objects[o]['kind'] == kind
 
-    def first_failing(self):
-        us, gs, os_, s = self.users, self.groups, self.objects, self.scheme
-        tests = {
-            'a': lambda: all(x['groups'] <= set(gs) for x in list(us.values()) + list(os_.values())),
-            'b': lambda: all(s.label(u['floor']) and s.label(u['top']) and s.flows(u['floor'], u['top']) for u in us.values())
-            and all(s.label(o['label']) for o in os_.values()),
-            'c': lambda: self.is_kind(0, CONTAINER) and os_[0]['parent'] == 0
-            and all(self.is_kind(o['parent'], CONTAINER) for o in os_.values()) and all(n == 0 or 0 in self.over(n) for n in os_),
-            'd': lambda: all(o['owner'] in us and set(o['rights']) <= set(us) for o in os_.values()),
-            'e': lambda: all(self.is_kind(o, PROGRAM) for u in us.values() for o in u['allowed']),
-            'f': lambda: any(u['admin'] for u in us.values()),
-            'g': lambda: all(self.held(self.over(n), o['label']) for n, o in os_.items()),
-            'h': lambda: all(o['kind'] == CONTAINER for o in os_.values() if o['mixed']),
-        }
-        return next((name for name, test in tests.items() if not test()), None)
+    def is_unmixed(self, o):
+        """Is it an unmixed container?"""
+        return self.is_kind(o, CONTAINER) and not self.objects[o]['mixed']
 
-    def has_right(self, s, o, right):
-        u, x = self.subjects[s]['user'], self.objects[o]
-        user = self.users[u]
-        return (x['owner'] == u or user['admin'] or right in x['rights'].get(u, ())
-                or any(right in self.groups[g] for g in user['groups'] & x['groups']))
+    def all_hold(self, containers, label):
+        """Does each unmixed one among these containers hold the label?"""
+        return all(self.scheme.holds(self.objects[p]['label'], label) for p in containers if self.is_unmixed(p))
 
-    def in_range(self, user, label):
-        u = self.users[user]
-        return self.scheme.flows(u['floor'], label) and self.scheme.flows(label, u['top'])
+    def holds_under(self, label, o):
+        """Does the label hold everything under the object?"""
+        return all(self.scheme.holds(label, self.objects[child]['label']) for child in self.under(o))
 
-    # ---- a call: the first number under which something is not so, or 0
+    def clauses(self):
+        """The clauses of soundness in their order, and whether each holds. Each is worked out only when those before it hold."""
+        users, objects, subjects = self.users.values(), self.objects.values(), self.subjects.values()
+        yield 'a', all(entry['groups'] <= self.groups.keys() for entry in [*users, *objects])
+        labels = [entry[name] for entry in [*users, *objects, *subjects] for name in ('floor', 'top', 'label') if name in entry]
+        yield 'b', all(map(self.scheme.label, labels)) and all(self.scheme.flows(user['floor'], user['top']) for user in users)
+        yield 'c', (self.is_kind(0, CONTAINER) and self.objects[0]['parent'] == 0
+                    and all(self.is_kind(entry['parent'], CONTAINER) for entry in objects)
+                    and all(o == 0 or 0 in self.over(o) for o in self.objects))
+        yield 'd', all(entry['owner'] in self.users and entry['rights'].keys() <= self.users.keys() for entry in objects)
+        yield 'e', all(self.is_kind(o, PROGRAM) for user in users for o in user['allow'])
+        yield 'f', any(user['administrator'] for user in users)
+        yield 'g', all(self.holds_under(self.objects[o]['label'], o) for o in self.objects if self.is_unmixed(o))
+        yield 'h', all(entry['kind'] == CONTAINER for entry in objects if entry['mixed'])
 
-    def call(self, name, a):
-        ask, do = getattr(self, 'ask_' + name), getattr(self, 'do_' + name)
-        for number, fine in ask(*a):
-            if not fine():
+
+# ---- The guard and its fourteen calls (MODEL.md) ----
+
+class Guard(Tables):
+    """Each call is a generator. It yields what the call asks, as pairs of a refusal's number and whether what stands under that
+    number is so, in ascending order. Behind the last of them stands what the call sets; so this is reached by a granted call alone.
+    The letters are those of the page: s is the subject, o the object, p the container, q the new parent."""
+
+    def __init__(self, scheme, roll_bytes):
+        super().__init__(scheme)
+        said = read_roll(roll_bytes)
+        self.users, self.groups, self.objects = said[1], said[2], said[3]
+        for clause, so in self.clauses():
+            if not so:
+                raise Fault(14, len(roll_bytes), clause)
+
+    def save(self):
+        """Records ascend by kind, then by number. Subjects are not written."""
+        tables = {1: self.users, 2: self.groups, 3: self.objects}
+        return b''.join(write_record(kind, number, tables[kind][number]) for kind in tables for number in sorted(tables[kind]))
+
+    def call(self, name, values):
+        """The answer is the first number under which something is not so. If there is none, the call is granted and answers 0."""
+        for number, so in getattr(self, 'call_' + name)(*values):
+            if not so:
                 return number
-        do(*a)
         return 0
 
-    def known(self, subject=None, user=None, objects=()):
-        yield 1, lambda: ((subject is None or subject in self.subjects) and (user is None or user in self.users)
-                          and all(o in self.objects for o in objects))
+    def user_of(self, s):
+        return self.subjects[s]['user']
 
-    def flow(self, *pairs):
-        yield 7, lambda: all(self.scheme.flows(a, b) for a, b in pairs)
+    def is_administrator(self, s):
+        return self.users[self.user_of(s)]['administrator']
 
-    def lab(self, o):
-        return self.objects[o]['label']
+    def may(self, s, right, o):
+        """A subject has the rights of its user."""
+        return self.has_right(self.user_of(s), right, o)
 
-    def slab(self, s):
-        return self.subjects[s]['label']
+    def to(self, s, o):
+        """S to O: the label of S flows to the label of O."""
+        return self.scheme.flows(self.subjects[s]['label'], self.objects[o]['label'])
 
-    def mine(self, s):
-        return self.users[self.subjects[s]['user']]
+    def call_enter(self, user, number, label):
+        yield 1, user in self.users and number in SUBJECTS
+        yield 2, number not in self.subjects
+        yield 3, self.scheme.label(label)
+        yield 8, self.in_range(label, user)
+        self.subjects[number] = {'user': user, 'label': label, 'program': None}
 
-    def ask_enter(self, u, n, l):
-        yield from self.known(user=u)
-        yield 1, lambda: n < 32
-        yield 2, lambda: n not in self.subjects
-        yield 3, lambda: self.scheme.label(l)
-        yield 8, lambda: self.in_range(u, l)
+    def call_launch(self, s, o, number, label):
+        yield 1, s in self.subjects and o in self.objects and number in SUBJECTS
+        yield 2, number not in self.subjects
+        yield 3, self.scheme.label(label)
+        yield 4, self.is_kind(o, PROGRAM)
+        yield 5, self.may(s, 'execute', o)
+        yield 6, o in self.users[self.user_of(s)]['allow'] or self.is_administrator(s)
+        yield 7, self.scheme.flows(self.subjects[s]['label'], label) and self.scheme.flows(self.objects[o]['label'], label)
+        yield 8, self.in_range(label, self.user_of(s))
+        self.subjects[number] = {'user': self.user_of(s), 'label': label, 'program': o}
 
-    def do_enter(self, u, n, l):
-        self.subjects[n] = dict(user=u, label=l, program=None)
-
-    def ask_launch(self, s, o, n, l):
-        yield from self.known(subject=s, objects=[o])
-        yield 1, lambda: n < 32
-        yield 2, lambda: n not in self.subjects
-        yield 3, lambda: self.scheme.label(l)
-        yield 4, lambda: self.is_kind(o, PROGRAM)
-        yield 5, lambda: self.has_right(s, o, 'execute')
-        yield 6, lambda: self.mine(s)['admin'] or o in self.mine(s)['allowed']
-        yield from self.flow((self.slab(s), l), (self.lab(o), l))
-        yield 8, lambda: self.in_range(self.subjects[s]['user'], l)
-
-    def do_launch(self, s, o, n, l):
-        self.subjects[n] = dict(user=self.subjects[s]['user'], label=l, program=o)
-
-    def ask_leave(self, s):
-        yield from self.known(subject=s)
-
-    def do_leave(self, s):
+    def call_leave(self, s):
+        yield 1, s in self.subjects
         del self.subjects[s]
 
-    def ask_read(self, s, o):
-        yield from self.known(subject=s, objects=[o])
-        yield 5, lambda: self.has_right(s, o, 'read')
-        yield from self.flow((self.lab(o), self.slab(s)))
+    def call_read(self, s, o):
+        yield 1, s in self.subjects and o in self.objects
+        yield 5, self.may(s, 'read', o)
+        yield 7, self.scheme.flows(self.objects[o]['label'], self.subjects[s]['label'])
 
-    def do_read(self, s, o):
-        pass
+    def call_write(self, s, o):
+        yield 1, s in self.subjects and o in self.objects
+        yield 4, self.is_kind(o, FILE)
+        yield 5, self.may(s, 'write', o)
+        yield 7, self.to(s, o)
 
-    def ask_write(self, s, o):
-        yield from self.known(subject=s, objects=[o])
-        yield 4, lambda: self.is_kind(o, FILE)
-        yield 5, lambda: self.has_right(s, o, 'write')
-        yield from self.flow((self.slab(s), self.lab(o)))
+    def call_create(self, s, p, number, kind, label):
+        yield 1, s in self.subjects and p in self.objects and number in OBJECTS
+        yield 2, number not in self.objects
+        yield 3, self.scheme.label(label)
+        yield 4, self.is_kind(p, CONTAINER) and kind <= 2
+        yield 5, self.may(s, 'create', p)
+        yield 6, kind != PROGRAM or self.is_administrator(s)
+        yield 7, self.scheme.flows(self.subjects[s]['label'], label) and self.to(s, p)
+        yield 9, self.all_hold({p} | self.over(p), label)
+        self.objects[number] = {'parent': p, 'kind': kind, 'owner': self.user_of(s), 'label': label,
+                                'mixed': False, 'groups': frozenset(), 'rights': {}}
 
-    do_write = do_read
-
-    def ask_create(self, s, p, n, k, l):
-        yield from self.known(subject=s, objects=[p])
-        yield 1, lambda: n < 64
-        yield 2, lambda: n not in self.objects
-        yield 3, lambda: self.scheme.label(l)
-        yield 4, lambda: self.is_kind(p, CONTAINER) and k <= 2
-        yield 5, lambda: self.has_right(s, p, 'create')
-        yield 6, lambda: k != 2 or self.mine(s)['admin']
-        yield from self.flow((self.slab(s), l), (self.slab(s), self.lab(p)))
-        yield 9, lambda: self.held(self.above(p), l)
-
-    def do_create(self, s, p, n, k, l):
-        self.objects[n] = dict(kind=KINDS[k], parent=p, owner=self.subjects[s]['user'], label=l, mixed=False, groups=set(), rights={})
-
-    def ask_delete(self, s, o):
-        yield from self.known(subject=s, objects=[o])
-        yield 5, lambda: self.has_right(s, o, 'delete')
-        yield from self.flow((self.slab(s), self.lab(o)), (self.slab(s), self.lab(self.objects[o]['parent'])))
-        yield 10, lambda: (o != 0 and all(x['parent'] != o for x in self.objects.values())
-                           and all(x['program'] != o for x in self.subjects.values()))
-
-    def do_delete(self, s, o):
+    def call_delete(self, s, o):
+        yield 1, s in self.subjects and o in self.objects
+        yield 5, self.may(s, 'delete', o)
+        yield 7, self.to(s, o) and self.to(s, self.objects[o]['parent'])
+        yield 10, o != 0 and all(entry['parent'] != o for entry in self.objects.values())
+        yield 10, all(entry['program'] != o for entry in self.subjects.values())
         del self.objects[o]
-        for u in self.users.values():
-            u['allowed'].discard(o)
+        for user in self.users.values():
+            user['allow'] -= {o}
 
-    def ask_move(self, s, o, q):
-        yield from self.known(subject=s, objects=[o, q])
-        yield 4, lambda: self.is_kind(q, CONTAINER)
-        yield 5, lambda: self.has_right(s, o, 'delete') and self.has_right(s, q, 'create')
-        old = self.lab(self.objects[o]['parent'])
-        yield from self.flow((self.slab(s), self.lab(o)), (self.slab(s), old), (self.slab(s), self.lab(q)), (old, self.lab(q)))
-        yield 9, lambda: o not in self.above(q) and all(self.held(self.above(q), self.lab(x)) for x in [o] + self.below(o))
-
-    def do_move(self, s, o, q):
+    def call_move(self, s, o, q):
+        yield 1, s in self.subjects and o in self.objects and q in self.objects
+        yield 4, self.is_kind(q, CONTAINER)
+        yield 5, self.may(s, 'delete', o) and self.may(s, 'create', q)
+        old = self.objects[o]['parent']
+        yield 7, self.to(s, o) and self.to(s, old) and self.to(s, q)
+        yield 7, self.scheme.flows(self.objects[old]['label'], self.objects[q]['label'])
+        yield 9, q != o and q not in self.under(o)
+        yield 9, all(self.all_hold({q} | self.over(q), self.objects[moved]['label']) for moved in {o} | self.under(o))
         self.objects[o]['parent'] = q
 
-    def ask_raise(self, s, o, l):
-        yield from self.known(subject=s, objects=[o])
-        yield 3, lambda: self.scheme.label(l)
-        yield 5, lambda: self.has_right(s, o, 'write attributes')
-        yield from self.flow((self.slab(s), self.lab(o)), (self.lab(o), l))
-        yield 9, lambda: (self.held(self.over(o), l)
-                          and (not self.unmixed(o) or all(self.scheme.holds(l, self.lab(x)) for x in self.below(o))))
+    def call_raise(self, s, o, label):
+        yield 1, s in self.subjects and o in self.objects
+        yield 3, self.scheme.label(label)
+        yield 5, self.may(s, 'write attributes', o)
+        yield 7, self.to(s, o) and self.scheme.flows(self.objects[o]['label'], label)
+        yield 9, self.all_hold(self.over(o), label)
+        yield 9, not self.is_unmixed(o) or self.holds_under(label, o)
+        self.objects[o]['label'] = label
 
-    def do_raise(self, s, o, l):
-        self.objects[o]['label'] = l
-
-    def ask_mix(self, s, o):
-        yield from self.known(subject=s, objects=[o])
-        yield 4, lambda: self.is_kind(o, CONTAINER)
-        yield 5, lambda: self.has_right(s, o, 'write attributes')
-        yield from self.flow((self.slab(s), self.lab(o)))
-
-    def do_mix(self, s, o):
+    def call_mix(self, s, o):
+        yield 1, s in self.subjects and o in self.objects
+        yield 4, self.is_kind(o, CONTAINER)
+        yield 5, self.may(s, 'write attributes', o)
+        yield 7, self.to(s, o)
         self.objects[o]['mixed'] = True
 
-    def ask_unmix(self, s, o):
-        yield from self.ask_mix(s, o)
-        yield 9, lambda: all(self.scheme.holds(self.lab(o), self.lab(x)) for x in self.below(o))
-
-    def do_unmix(self, s, o):
+    def call_unmix(self, s, o):
+        yield 1, s in self.subjects and o in self.objects
+        yield 4, self.is_kind(o, CONTAINER)
+        yield 5, self.may(s, 'write attributes', o)
+        yield 7, self.to(s, o)
+        yield 9, self.holds_under(self.objects[o]['label'], o)
         self.objects[o]['mixed'] = False
 
-    def ask_rights(self, s, o, u, m):
-        yield from self.known(subject=s, user=u, objects=[o])
-        yield 4, lambda: m < 128
-        yield 5, lambda: self.has_right(s, o, 'change rights')
-        yield from self.flow((self.slab(s), self.lab(o)))
+    def call_rights(self, s, o, user, byte):
+        yield 1, s in self.subjects and o in self.objects and user in self.users
+        yield 4, 7 not in members(byte)                                 # bit 7 of the set is clear
+        yield 5, self.may(s, 'change rights', o)
+        yield 7, self.to(s, o)
+        sets = {**self.objects[o]['rights'], user: rights_of(byte)}
+        self.objects[o]['rights'] = {who: rights for who, rights in sets.items() if rights}         # an empty set is as none
 
-    def do_rights(self, s, o, u, m):
-        self.objects[o]['rights'][u] = {RIGHTS[i] for i in members(m, 7)}
+    def call_allow(self, s, user, o):
+        yield 1, s in self.subjects and user in self.users and o in self.objects
+        yield 4, self.is_kind(o, PROGRAM)
+        yield 6, self.is_administrator(s)
+        self.users[user]['allow'] |= {o}
 
-    def ask_allow(self, s, u, o):
-        yield from self.known(subject=s, user=u, objects=[o])
-        yield 4, lambda: self.is_kind(o, PROGRAM)
-        yield 6, lambda: self.mine(s)['admin']
-
-    def do_allow(self, s, u, o):
-        self.users[u]['allowed'].add(o)
-
-    ask_bar = ask_allow
-
-    def do_bar(self, s, u, o):
-        self.users[u]['allowed'].discard(o)
+    def call_bar(self, s, user, o):
+        yield 1, s in self.subjects and user in self.users and o in self.objects
+        yield 4, self.is_kind(o, PROGRAM)
+        yield 6, self.is_administrator(s)
+        self.users[user]['allow'] -= {o}
 
 
-# ---- the call stream and the run
+# ---- The programs (RUN.md) ----
 
-CALLS = {1: ('enter', 'bbL'), 2: ('launch', 'bbbL'), 3: ('leave', 'b'), 4: ('read', 'bb'), 5: ('write', 'bb'), 6: ('create', 'bbbbL'),
-         7: ('delete', 'bb'), 8: ('move', 'bbb'), 9: ('raise', 'bbL'), 10: ('mix', 'bb'), 11: ('unmix', 'bb'), 12: ('rights', 'bbbb'),
-         13: ('allow', 'bbb'), 14: ('bar', 'bbb')}
+# The calls by number, with a letter for each argument: L for a label, 8 bytes, and b for one byte.
+CALLS = {1: ('enter', 'bbL'), 2: ('launch', 'bbbL'), 3: ('leave', 'b'), 4: ('read', 'bb'), 5: ('write', 'bb'),
+         6: ('create', 'bbbbL'), 7: ('delete', 'bb'), 8: ('move', 'bbb'), 9: ('raise', 'bbL'), 10: ('mix', 'bb'),
+         11: ('unmix', 'bb'), 12: ('rights', 'bbbb'), 13: ('allow', 'bbb'), 14: ('bar', 'bbb')}
 
-
-def read_call(b):
-    start = b.at
-    bits, number = b.take(2, start)
-    if number not in CALLS or bits >> len(CALLS[number][1]):
-        raise Fault(12, start)
-    name, shape = CALLS[number]
-    there = [bool(bits >> i & 1) for i in range(len(shape))]
-    values = [int.from_bytes(b.take(8 if w == 'L' else 1, start), 'little') if t else 0 for w, t in zip(shape, there)]
-    if any(t and v == 0 for t, v in zip(there, values)):
-        raise Fault(12, start)
-    return name, values
-
+def read_call(reader):
+    """One call as name and arguments. The tests stand in the order that the page gives them."""
+    bits, number = members(reader.take(1)), reader.take(1)                                  # 1: two bytes are there
+    reader.insist(number in CALLS and all(bit < len(CALLS[number][1]) for bit in bits), 12)  # 2: number and bits are known
+    name, widths = CALLS[number]
+    present = {bit: reader.take(8 if widths[bit] == 'L' else 1) for bit in sorted(bits)}    # 3: the arguments are there
+    reader.insist(0 not in present.values(), 12)                                            # 4: none of them is zero
+    return name, [present.get(i, 0) for i in range(len(widths))]
 
 def run(kind, roll, calls):
-    """the lines that are printed"""
-    lines = []
+    """The lines that are printed for a roll and a list of calls."""
     try:
         guard = Guard(Scheme(kind), roll)
-    except Fault as f:
-        return [f'roll {f.number} {f.place}']
-    b = Bytes(calls)
-    while b.more():
+    except Fault as fault:
+        return [f'roll {fault.number} {fault.place}']
+    lines, reader = [], Reader(calls)
+    while reader.more():
         try:
-            name, values = read_call(b)
-        except Fault as f:
-            return lines + [f'bad {f.number} {f.place}']
+            name, values = read_call(reader)
+        except Fault as fault:
+            return lines + [f'bad {fault.number} {fault.place}']
         lines.append(f'{len(lines)} {guard.call(name, values)}')
     return lines
 
+def main(scheme, path):
+    roll = Path(path).read_bytes() if Path(path).exists() else b''       # a missing file counts as an empty one
+    for line in run({'house': House, 'old': Old}[scheme], roll, sys.stdin.buffer.read()):
+        print(line)
+
 
 if __name__ == '__main__':
-    kind = {'house': House, 'old': Old}[sys.argv[1]]
-    roll = open(sys.argv[2], 'rb').read() if os.path.exists(sys.argv[2]) else b''
-    for line in run(kind, roll, sys.stdin.buffer.read()):
-        print(line)
+    main(*sys.argv[1:])
