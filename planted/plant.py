@@ -1,9 +1,9 @@
 #!/usr/bin/env python3
-"""Plants one bug at a time and lets the prover judge it.   plant.py REPOSITORY [WORKERS]
+"""Plants one bug at a time and lets the prover judge it.   plant.py REPOSITORY [WORKERS [LIST]]
 
-REPOSITORY is a checkout that was proved; it is copied for each worker and not changed. Each line of bugs.txt
-is put into its file alone, and the crate is checked by `rt check`. Printed: refused or STILL PROVED, the crate and file, the change, and the
-first line in which the prover objects.
+REPOSITORY is a checkout that was proved; it is copied for each worker and not changed. Each line of LIST (bugs.txt, of the code; or
+definitions.txt, of the definitions) is put into its file alone, and the crate is checked by `rt check`, and behind it the crates that the line names, up
+to the first that is refused. Printed: refused or STILL PROVED, the crate and file, the change, and the first line in which the prover objects.
 """
 import os
 import re
@@ -16,15 +16,15 @@ import threading
 HERE = os.path.dirname(os.path.abspath(__file__))
 
 
-def bugs():
-    with open(os.path.join(HERE, 'bugs.txt'), encoding='utf-8') as f:
+def bugs(name):
+    with open(os.path.join(HERE, name), encoding='utf-8') as f:
         for line in f:
             if line.strip() and not line.startswith('#'):
-                crate, file, old, new = (line.rstrip('\n') + ' ').split(' ;; ')
-                yield crate, file, old, new.strip()
+                crate, file, old, new, *behind = (line.rstrip('\n') + ' ').split(' ;; ')
+                yield crate, file, old, new.strip(), ' '.join(behind).split()
 
 
-def judge(repo, crate, file, old, new):
+def judge(repo, crate, file, old, new, behind):
     path = os.path.join(repo, 'crates', crate, file)
     with open(path, encoding='utf-8') as f:
         text = f.read()
@@ -33,20 +33,25 @@ def judge(repo, crate, file, old, new):
     with open(path, 'w', encoding='utf-8') as f:
         f.write(text.replace(old, new))
     try:
-        done = subprocess.run(['rt', 'check'], cwd=os.path.join(repo, 'crates', crate), capture_output=True, text=True)
+        for checked in [crate, *behind]:
+            done = subprocess.run(['rt', 'check'], cwd=os.path.join(repo, 'crates', checked), capture_output=True, text=True)
+            if done.returncode != 0:
+                break
     finally:
         with open(path, 'w', encoding='utf-8') as f:
             f.write(text)
     out = (done.stdout + done.stderr).replace(repo + '/', '')
     if done.returncode == 0:
         return 'STILL PROVED', ''
-    why = [l for l in out.splitlines() if re.search(r'error|not proved that|`search` found|not proved', l)]
+    where = '' if checked == crate else checked + ': '
+    why = [where + l for l in out.splitlines() if re.search(r'error|not proved that|`search` found|not proved', l)]
     return 'refused', (why or ['?'])[0][:240]
 
 
 def main():
     source, workers = sys.argv[1], int(sys.argv[2]) if len(sys.argv) > 2 else 2
-    work, lock, results = list(enumerate(bugs())), threading.Lock(), {}
+    name = sys.argv[3] if len(sys.argv) > 3 else 'bugs.txt'
+    work, lock, results = list(enumerate(bugs(name))), threading.Lock(), {}
 
     def worker():
         with tempfile.TemporaryDirectory(dir=os.path.dirname(os.path.abspath(source))) as folder:
@@ -59,7 +64,7 @@ def main():
                     i, bug = work.pop(0)
                 results[i] = (bug, judge(repo, *bug))
                 with lock:
-                    (crate, file, old, new), (verdict, why) = results[i]
+                    (crate, file, old, new, _), (verdict, why) = results[i]
                     print(f'{verdict} | {crate}/{file} | {old} | {new or "(dropped)"} | {why}', flush=True)
 
     threads = [threading.Thread(target=worker) for _ in range(workers)]

@@ -2,9 +2,14 @@
 """Random rolls and random call streams, run by the built programs and by second.py, and compared.
 
     drive.py CRATES CASES [SEED]
+    drive.py store CRATES CASES SEED
 
-CRATES is the folder `crates` of a checkout in which both programs were built: each lies in its crate's out/. Rolls are mostly sound, some damaged. Calls follow the moving state, so that every answer comes up. It prints how often each answer and
-fault came up, and ends with status 1 at the first difference, which it leaves in the folder `difference`.
+CRATES is the folder `crates` of a checkout in which the programs were built: each lies in its crate's out/. Rolls are mostly sound; some are damaged,
+and some break one clause of soundness. Calls follow the moving state, so that every answer comes up. Each case is run by `guard` or `old_guard`, and
+by `replay`, which also tells the clause that fails and the bytes that the guard saves in the end. It prints how often each answer, fault and clause
+came up, and ends with status 1 at the first difference, which it leaves in the folder `difference`.
+
+`store` runs no program: it writes cases into CRATES/replay/stdin, and what second.py says of them into CRATES/replay/stdout.
 """
 import collections
 import os
@@ -80,8 +85,40 @@ def sound_roll(rng, program):
     return roll
 
 
+def break_clause(rng, program, records):
+    """records that say tables in which some clause of soundness may fail"""
+    kind, label, low, high, holder = SCHEMES[program]
+    users = [i for i, x in enumerate(records) if x[1] == 1]
+    objects = [i for i, x in enumerate(records) if x[1] == 3]
+    at = rng.choice(objects)
+    number = records[at][2]
+    clause = rng.choice('abcdefgh')
+    if clause == 'a':
+        records[at] = record(3, number, [0, 1, records[users[0]][2], holder, False, 1 << rng.randrange(16), {}])
+    elif clause == 'b':
+        records[users[-1]] = record(1, records[users[-1]][2], [True, 0, 0, high, low] if rng.random() < 0.5 else [True, 0, 0, low, 2 ** 40 - 1])
+    elif clause == 'c':
+        records[at] = record(3, number, [rng.randrange(256), 0, records[users[0]][2], holder, True, 0, {}])
+    elif clause == 'd':
+        records[at] = record(3, number, [0, 0, rng.randrange(256), holder, True, 0, {rng.randrange(16): 1}])
+    elif clause == 'e':
+        records[users[0]] = record(1, records[users[0]][2], [True, 0, 1 << rng.randrange(64), low, high])
+    elif clause == 'f':
+        for i in users:
+            records[i] = record(1, records[i][2], [False, 0, 0, low, high])
+    elif clause == 'g':
+        records[objects[0]] = record(3, 0, [0, 0, records[users[0]][2], low, False, 0, {}])
+    else:
+        records[objects[-1]] = record(3, records[objects[-1]][2], [0, 1, records[users[0]][2], low, True, 0, {}])
+        if len(objects) > 1:
+            records[objects[0]] = record(3, 0, [0, 0, records[users[0]][2], low, True, 0, {}])
+    return b''.join(records)
+
+
 def bad_roll(rng, program):
     records = make_records(rng, program)
+    if rng.random() < 0.5:
+        return break_clause(rng, program, records)
     if rng.random() < 0.3:
         records.insert(rng.randrange(len(records) + 1), rng.choice(records))
         return b''.join(records)
@@ -130,7 +167,8 @@ def make_calls(rng, program, roll):
         known = {'u': list(guard.users), 's': list(guard.subjects), 'o': list(guard.objects), 'p': of_kind(second.PROGRAM),
                  'f': of_kind(second.FILE), 'c': of_kind(second.CONTAINER)}
         if c in known:
-            return rng.choice(known[c] or [0])
+            wider = c in 'pfc' and rng.random() < 0.1
+            return rng.choice(known['o' if wider else c] or [0])
         if c == 'L':
             return rng.choice([label(rng), low, high, holder, rng.choice([x['label'] for x in list(guard.objects.values()) + list(guard.subjects.values())])])
         return {'n': rng.randrange(32), 'N': rng.randrange(64), 'k': rng.choice([0, 0, 1, 1, 2, 2, 3]), 'm': rng.choice([rng.randrange(128), rng.randrange(256)])}[c]
@@ -151,6 +189,48 @@ def run_program(path, roll, calls, folder):
     return done.stdout.decode().splitlines()
 
 
+def told(kind, roll, calls):
+    """the line of `replay` for a case: the answers, the end, and what the guard saves"""
+    end, answers, saved = 'end', [], b''
+    try:
+        guard = second.Guard(second.Scheme(kind), roll)
+    except second.Fault as fault:
+        return f'roll {fault.number} {fault.place}' + (f' {ord(fault.clause) - 96} ' if fault.clause else ' ')
+    reader = second.Reader(calls)
+    while reader.more():
+        try:
+            name, values = second.read_call(reader)
+        except second.Fault as fault:
+            end = f'bad {fault.number} {fault.place}'
+            break
+        answers.append(guard.call(name, values))
+    return ''.join(f'{a} ' for a in answers) + f'{end} {guard.save().hex()}'
+
+
+def stored(program, roll, calls):
+    """a case as `replay` reads it"""
+    return bytes([program != 'guard']) + len(roll).to_bytes(2, 'little') + len(calls).to_bytes(2, 'little') + roll + calls
+
+
+def store(folder, count, seed):
+    rng = random.Random(seed)
+    cases = [case(rng) for _ in range(count)]
+    with open(os.path.join(folder, 'replay', 'stdin'), 'wb') as f:
+        f.write(b''.join(stored(*c) for c in cases))
+    with open(os.path.join(folder, 'replay', 'stdout'), 'w', encoding='utf-8') as f:
+        f.writelines(told(SCHEMES[program][0], roll, calls) + '\n' for program, roll, calls in cases)
+    return 0
+
+
+def leave(program, roll, calls, want, got):
+    os.makedirs('difference', exist_ok=True)
+    for name, data in (('roll', roll), ('calls', calls)):
+        with open(os.path.join('difference', name), 'wb') as f:
+            f.write(data)
+    print(program, 'differs: see the folder difference\nsecond:', want, '\nprogram:', got)
+    return 1
+
+
 def case(rng):
     program = rng.choice(list(SCHEMES))
     roll = sound_roll(rng, program) if rng.random() < 0.85 else bad_roll(rng, program)
@@ -160,26 +240,39 @@ def case(rng):
     return program, roll, calls
 
 
-def main():
-    folder, count, seed = sys.argv[1], int(sys.argv[2]), int(sys.argv[3]) if len(sys.argv) > 3 else 1
-    rng, seen = random.Random(seed), collections.Counter()
+def replayed(folder, cases):
+    """what the built `replay` says of cases, a line each"""
+    done = subprocess.run([os.path.join(folder, 'replay', 'out', 'replay')], input=b''.join(stored(*c) for c in cases), capture_output=True, check=True)
+    return done.stdout.decode().split('\n')
+
+
+def compare(folder, count, seed):
+    rng, seen, clauses = random.Random(seed), collections.Counter(), collections.Counter()
     with tempfile.TemporaryDirectory() as place:
-        for i in range(count):
-            program, roll, calls = case(rng)
-            want = second.run(SCHEMES[program][0], roll, calls)
-            got = run_program(os.path.abspath(os.path.join(folder, program, 'out', program)), roll, calls, place)
-            if want != got:
-                os.makedirs('difference', exist_ok=True)
-                for name, data in (('roll', roll), ('calls', calls)):
-                    with open(os.path.join('difference', name), 'wb') as f:
-                        f.write(data)
-                print('case', i, program, 'differs: see the folder difference\nsecond:', want[-3:], '\nprogram:', got[-3:])
-                return 1
-            for line in want:
-                first, answer = line.split()[:2]
-                seen[int(answer)] += 1
+        for first in range(0, count, 500):
+            cases = [case(rng) for _ in range(min(500, count - first))]
+            for (program, roll, calls), line in zip(cases, replayed(folder, cases), strict=False):
+                kind = SCHEMES[program][0]
+                want = second.run(kind, roll, calls)
+                got = run_program(os.path.abspath(os.path.join(folder, program, 'out', program)), roll, calls, place)
+                if want != got:
+                    return leave(program, roll, calls, want[-3:], got[-3:])
+                want_line = told(kind, roll, calls)
+                if want_line != line:
+                    return leave('replay', roll, calls, want_line, line)
+                for said in want:
+                    seen[int(said.split()[1])] += 1
+                if line.startswith('roll 14'):
+                    clauses['abcdefgh'[int(line.split()[3]) - 1]] += 1
     print(count, 'cases, no difference; answers:', ', '.join(f'{k}: {seen[k]}' for k in sorted(seen)))
+    print('of 14, by clause:', ', '.join(f'{k}: {clauses[k]}' for k in sorted(clauses)))
     return 0
+
+
+def main():
+    if sys.argv[1] == 'store':
+        return store(sys.argv[2], int(sys.argv[3]), int(sys.argv[4]))
+    return compare(sys.argv[1], int(sys.argv[2]), int(sys.argv[3]) if len(sys.argv) > 3 else 1)
 
 
 if __name__ == '__main__':

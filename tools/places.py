@@ -31,7 +31,7 @@ POINTS = {
         (r"\} = t\.|if let Some\(\w+\) = t\.(user|group)\(number\)", "one for each table"),
         (r"fn (house|old)_(guard|transcript)\(|fn (secrecy|trust)_label\(", "one for each label"),
         (r"Container if !\w+\.has_right\(s\.user, o, Right::WriteAttributes\) =>", "one for each mark"),
-        (r"has_right\(s\.user, o, .*\n(\s*return Err.*\n\s*\}\n|\s*Err.*\n\s*\}\n)?.*\bflows\(s\.label, o\.label\)", "the right, then the flow"),
+        (r"has_right\(s\.user, o, Right::.*\n(\s*return Err.*\n\s*\}\n|\s*Err.*\n\s*\}\n)?.*\bflows\(s\.label, o\.label\)", "the right, then the flow"),
         (r'let \(a, b\) = \(p\.|"(bad|roll) \{number\} \{place\}', "the same print"),
         (r"Question::(Label|Flows|Holds)\(SchemeName::(House|Old),", "one for each label"),
     ],

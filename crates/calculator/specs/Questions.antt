@@ -4,7 +4,8 @@ use Rattle.calculator.specs.declared.questions.Ask.{Ask}
 use Rattle.calculator.specs.declared.questions.Ask.TheVariants as ask
 use Rattle.notation.specs.declared.schemes.SchemeName.{SchemeName}
 use Rattle.calculator.specs.declared.questions.Question.{Question}
-use Rattle.calculator.specs.declared.questions.Question.TheVariants as question
+use Rattle.calculator.specs.declared.questions.Query.{Query}
+use Rattle.calculator.specs.declared.questions.Query.TheVariants as query
 use Rattle.calculator.specs.declared.questions.Fault.{Fault}
 use Rattle.calculator.specs.declared.questions.Fault.TheVariants as fault
 use Rattle.notation.specs.Notation.{Names, called_scheme}
@@ -18,14 +19,6 @@ called_ask ask.Holds = codes "holds"
 called_ask ask.Number = codes "number"
 called_ask ask.Parts = codes "parts"
 
--- the label scheme that a question is about
-abbrev pub scheme_of : Question → SchemeName
-scheme_of (question.Label k a) = k
-scheme_of (question.Flows k a b) = k
-scheme_of (question.Holds k p c) = k
-scheme_of (question.Number k a) = k
-scheme_of (question.Parts k a) = k
-
 -- word number i of a line; a word that is missing is empty
 abbrev pub word : List (List ℕ) → ℕ → List ℕ
 word ws i = slice_index_or ws i []
@@ -34,17 +27,17 @@ word ws i = slice_index_or ws i []
 abbrev pub Reads : {X : Type 0} → (X → Type 0) → Fault → Result Question Fault → (X → Type 0) → Type 0
 Reads {X} Is f r Next = ((x : X) × Is x × Next x) ⊎ (((x : X) → Is x → ⊥) × (r ≡ Err f))
 
--- there are no words behind the first n, and the answer is q; or there are, and that is the fault
-abbrev pub Whole : List (List ℕ) → ℕ → Question → Result Question Fault → Type 0
-Whole ws n q r = ((length ws ≤ n) × (r ≡ Ok q)) ⊎ ((n < length ws) × (r ≡ Err fault.Extra))
+-- there are no words behind the first n, and the question is q of the scheme k; or there are, and that is the fault
+abbrev pub Whole : List (List ℕ) → ℕ → SchemeName → Query → Result Question Fault → Type 0
+Whole ws n k q r = ((length ws ≤ n) × (r ≡ Ok (record { scheme = k; query = q }))) ⊎ ((n < length ws) × (r ≡ Err fault.Extra))
 
 -- what follows the first label: nothing, or a second one
 abbrev pub Rest : List (List ℕ) → Ask → SchemeName → ℕ → Result Question Fault → Type 0
-Rest ws ask.Label k a r = Whole ws 3 (question.Label k a) r
-Rest ws ask.Flows k a r = Reads (Names k (word ws 3)) fault.Second r (λ b. Whole ws 4 (question.Flows k a b) r)
-Rest ws ask.Holds k a r = Reads (Names k (word ws 3)) fault.Second r (λ b. Whole ws 4 (question.Holds k a b) r)
-Rest ws ask.Number k a r = Whole ws 3 (question.Number k a) r
-Rest ws ask.Parts k a r = Whole ws 3 (question.Parts k a) r
+Rest ws ask.Label k a r = Whole ws 3 k (query.Label a) r
+Rest ws ask.Flows k a r = Reads (Names k (word ws 3)) fault.Second r (λ b. Whole ws 4 k (query.Flows a b) r)
+Rest ws ask.Holds k a r = Reads (Names k (word ws 3)) fault.Second r (λ b. Whole ws 4 k (query.Holds a b) r)
+Rest ws ask.Number k a r = Whole ws 3 k (query.Number a) r
+Rest ws ask.Parts k a r = Whole ws 3 k (query.Parts a) r
 
 -- The words of a question: what is asked, of which scheme, and of which one or two labels.
 abbrev pub Asked : List (List ℕ) → Result Question Fault → Type 0

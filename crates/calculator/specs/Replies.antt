@@ -1,9 +1,11 @@
 -- What is replied to a line, and to a whole text. Assumes nothing.
 use Rattle.std.specs.Prelude.{◌≡◌, ℕ, ◌+◌, cond, List, [], ◌∷◌, ◌++◌, Ok, Err, codes, decimal, Result}
 use Rattle.labels.specs.Parts.{parts_of, notation}
+use Rattle.notation.specs.declared.schemes.SchemeName.{SchemeName}
 use Rattle.notation.specs.declared.schemes.SchemeName.TheVariants as scheme
 use Rattle.calculator.specs.declared.questions.Question.{Question}
-use Rattle.calculator.specs.declared.questions.Question.TheVariants as question
+use Rattle.calculator.specs.declared.questions.Query.{Query}
+use Rattle.calculator.specs.declared.questions.Query.TheVariants as query
 use Rattle.calculator.specs.declared.questions.Fault.{Fault}
 use Rattle.calculator.specs.declared.questions.Fault.TheVariants as fault
 use Rattle.calculator.specs.declared.replies.Reply.{Reply}
@@ -11,14 +13,18 @@ use Rattle.calculator.specs.declared.replies.Reply.TheVariants as reply
 use Rattle.notation.specs.Notation.{meaning_of}
 use Rattle.calculator.specs.Questions.{Understood}
 
--- the answer to a question; the old label has one part
+-- the answer to what is asked of a scheme; the old label has one part
+abbrev pub reply_by : SchemeName → Query → Reply
+reply_by k (query.Label a) = reply.Truth ((meaning_of k).label a)
+reply_by k (query.Flows a b) = reply.Truth ((meaning_of k).flow a b)
+reply_by k (query.Holds p c) = reply.Truth ((meaning_of k).hold p c)
+reply_by k (query.Number a) = reply.Number a
+reply_by scheme.House (query.Parts a) = reply.Parts (parts_of a)
+reply_by scheme.Old (query.Parts a) = reply.Number a
+
+-- the answer to a question
 abbrev pub reply_to : Question → Reply
-reply_to (question.Label k a) = reply.Truth ((meaning_of k).label a)
-reply_to (question.Flows k a b) = reply.Truth ((meaning_of k).flow a b)
-reply_to (question.Holds k p c) = reply.Truth ((meaning_of k).hold p c)
-reply_to (question.Number k a) = reply.Number a
-reply_to (question.Parts scheme.House a) = reply.Parts (parts_of a)
-reply_to (question.Parts scheme.Old a) = reply.Number a
+reply_to q = reply_by q.scheme q.query
 
 abbrev pub reply_text : Reply → List ℕ
 reply_text (reply.Truth b) = cond b (codes "yes") (codes "no")

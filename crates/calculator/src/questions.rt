@@ -1,12 +1,9 @@
 //! Questions about labels.
-ghost use Rattle.std.specs.Prelude.{◌≡◌};
-ghost use Rattle.calculator.specs.Questions.{scheme_of};
-
 use notation::SchemeName;
 
 pub mod reads;
 
-/// What is asked.
+/// What is asked, as the first word of a line says it.
 #[derive(Clone, Copy)]
 pub enum Ask {
     Label,
@@ -16,29 +13,21 @@ pub enum Ask {
     Parts,
 }
 
-/// A whole question.
+/// What is asked, and of which labels.
 #[derive(Clone, Copy)]
-pub enum Question {
-    Label(SchemeName, u64),
-    Flows(SchemeName, u64, u64),
-    Holds(SchemeName, u64, u64),
-    Number(SchemeName, u64),
-    Parts(SchemeName, u64),
+pub enum Query {
+    Label(u64),
+    Flows(u64, u64),
+    Holds(u64, u64),
+    Number(u64),
+    Parts(u64),
 }
 
-impl Question {
-    /// The label scheme that is asked about.
-    pub(crate) fn scheme(&self) -> SchemeName
-        ensures { result ≡ scheme_of self.now }
-    {
-        match *self {
-            Question::Label(scheme, _)
-            | Question::Flows(scheme, _, _)
-            | Question::Holds(scheme, _, _)
-            | Question::Number(scheme, _)
-            | Question::Parts(scheme, _) => scheme,
-        }
-    }
+/// A whole question: the label scheme that it is about, and what is asked.
+#[derive(Clone, Copy)]
+pub struct Question {
+    pub scheme: SchemeName,
+    pub query: Query,
 }
 
 /// The first thing in a line that is not understood.

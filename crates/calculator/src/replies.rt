@@ -1,13 +1,11 @@
 //! Replies to questions, to lines and to whole texts.
 ghost use Rattle.std.specs.Prelude.{◌≡◌, ℕ, List, IfOk, Some as Text, string_bytes};
 ghost use Rattle.calculator.specs.Replies.{reply_to, reply_text, fault_text, Replied, Replies};
-ghost use Rattle.calculator.specs.Questions.{scheme_of};
 ghost use Rattle.notation.specs.Notation.{meaning_of};
 ghost use Rattle.notation.specs.Texts.{Lines as AreLines};
 
-use crate::lines::Lines;
 use crate::questions::reads::read_question;
-use crate::questions::{Fault, Question};
+use crate::questions::{Fault, Query, Question};
 use labels::{Parts, Scheme, house_label, old_label};
 use notation::SchemeName;
 use std::alloc::{AllocError, Global};
@@ -65,7 +63,7 @@ pub fn answer(question: Question) -> Reply
     ensures { result ≡ reply_to question }
 {
     // Kept: two schemes, a closed set, each with a type of its own.
-    match question.scheme() {
+    match question.scheme {
         SchemeName::House => answer_by(&house_label(), question),
         SchemeName::Old => answer_by(&old_label(), question),
     }
@@ -74,14 +72,14 @@ pub fn answer(question: Question) -> Reply
 /// The answer to a question by a label scheme, the one that the question names.
 // Kept: five questions, a closed set, each with its own answer.
 fn answer_by<S: Scheme>(scheme: &S, question: Question) -> Reply
-    ensures { S.Scheme.meaning scheme.now ≡ meaning_of (scheme_of question) → result ≡ reply_to question }
+    ensures { S.Scheme.meaning scheme.now ≡ meaning_of question.scheme → result ≡ reply_to question }
 {
-    match question {
-        Question::Label(_, a) => Reply::Truth(scheme.label(a)),
-        Question::Flows(_, a, b) => Reply::Truth(scheme.flows(a, b)),
-        Question::Holds(_, p, c) => Reply::Truth(scheme.holds(p, c)),
-        Question::Parts(SchemeName::House, a) => Reply::Parts(Parts::from(a)),
-        Question::Number(_, a) | Question::Parts(SchemeName::Old, a) => Reply::Number(a),
+    match (question.query, question.scheme) {
+        (Query::Label(a), _) => Reply::Truth(scheme.label(a)),
+        (Query::Flows(a, b), _) => Reply::Truth(scheme.flows(a, b)),
+        (Query::Holds(p, c), _) => Reply::Truth(scheme.holds(p, c)),
+        (Query::Parts(a), SchemeName::House) => Reply::Parts(Parts::from(a)),
+        (Query::Number(a), _) | (Query::Parts(a), SchemeName::Old) => Reply::Number(a),
     }
 }
 
@@ -103,7 +101,8 @@ pub fn reply_all(heap: Global, text: &[u8]) -> Result<String, AllocError>
     ensures { IfOk result (λ s. (lines : List (List ℕ)) × AreLines text.now lines × Replies 0 lines (string_bytes s)) }
 {
     let mut out = String::new(heap);
-    for (i, line) in Lines::new(text).enumerate() {
+    for (i, line) in text.split_inclusive(|b| *b == b'\n').enumerate() {
+        let line = line.strip_suffix(b"\n").unwrap_or(line);
         let reply = reply_line(heap, i as u64 + 1, line)?;
         out.push_str(reply.as_str())?;
     }

@@ -197,10 +197,14 @@ abbrev pub FineAt : ℕ → List Ask → Type 0
 FineAt w [] = Unit {0}
 FineAt w (a ∷ rest) = (under a ≡ w → Fine a) × FineAt w rest
 
--- A granted call answers 0: all that it asks is fine. Otherwise the answer is the first number under which something is not fine.
+-- The answer is 0 if all that is asked is fine, and otherwise the first number under which something is not fine.
+abbrev pub Answered : List Ask → ℕ → Type 0
+Answered wanted zero = AllFine wanted
+Answered wanted (suc w) = FineBelow (suc w) wanted × (FineAt (suc w) wanted → ⊥)
+
+-- A call is granted, and answers 0, if all that it asks is fine; otherwise it is refused with the first number under which something is not fine.
 abbrev pub Answer : Meaning → Tables → Call → ℕ → Type 0
-Answer m t c zero = AllFine (asks m t c)
-Answer m t c (suc w) = FineBelow (suc w) (asks m t c) × (FineAt (suc w) (asks m t c) → ⊥)
+Answer m t c a = Answered (asks m t c) a
 
 -- Every call has one answer.
 abbrev pub OneAnswer : Meaning → Type 0

@@ -33,11 +33,11 @@ module _ {m : Meaning} {roll : Tables} {calls : List Call} {answers : List ℕ} 
   granted_fine k g = subst (Answer m (r.tables k) (call_at calls k)) g.1 (r.answered k g.0)
 
   -- and its outcome comes next
-  granted_next : (k : ℕ) → Granted r k → r.tables (suc k) ≡ outcome (r.tables k) (call_at calls k)
+  pub granted_next : (k : ℕ) → Granted r k → r.tables (suc k) ≡ outcome (r.tables k) (call_at calls k)
   granted_next k g = r.goes k g.0 ∙ ap (after (r.tables k) (call_at calls k)) g.1 ∙ sym (outcome_effect m (r.tables k) (call_at calls k) (granted_fine k g))
 
   -- a party that stands later stood before, from its beginning on
-  stood_before : (j k : ℕ) (p : Party) → p.since ≤ j → j ≤ k → Stands r k p → Stands r j p
+  pub stood_before : (j k : ℕ) (p : Party) → p.since ≤ j → j ≤ k → Stands r k p → Stands r j p
   stood_before j k p a b s = record { begun = s.begun; before = a; unended = λ i x y. s.unended i x (omega arith) }
 
   module _ (laws : Lawful m) (loaded : Loaded m roll) where
@@ -47,7 +47,7 @@ module _ {m : Meaning} {roll : Tables} {calls : List Call} {answers : List ℕ} 
     whole_at (suc k) h =
         subst (Whole m) (sym (r.goes k h)) (whole_after m laws (r.tables k) (call_at calls k) (answer_at answers k) (whole_at k (omega arith)) (r.answered k h))
 
-    sized_at : (k : ℕ) → k ≤ length calls → Sized (r.tables k)
+    pub sized_at : (k : ℕ) → k ≤ length calls → Sized (r.tables k)
     sized_at k h = (whole_at k h).sized
 
     labelled_at : (k : ℕ) → k ≤ length calls → LabelsStand m (r.tables k)
@@ -89,7 +89,7 @@ module _ {m : Meaning} {roll : Tables} {calls : List Call} {answers : List ℕ} 
         subst (λ (t : Tables). present t s n ≡ true) (sym (granted_next k e.0))
         (makes_has m laws (r.tables k) (sized_at k (omega arith)) (call_at calls k) s n (granted_fine k e.0) e.1)
 
-    stands_has : (k : ℕ) (p : Party) → k ≤ length calls → Stands r k p → present (r.tables k) p.sort p.number ≡ true
+    pub stands_has : (k : ℕ) (p : Party) → k ≤ length calls → Stands r k p → present (r.tables k) p.sort p.number ≡ true
     stands_has k p h s =
         (flows_later p p.since k (omega arith) s.before h s (begun_has p.sort p.number p.since (omega (arith, s.before)) s.begun)).0
 

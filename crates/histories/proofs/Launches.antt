@@ -44,11 +44,11 @@ module _ {m : Meaning} {roll : Tables} {calls : List Call} {answers : List ℕ} 
 
   module _ (laws : Lawful m) (loaded : Loaded m roll) where
     -- some party of this sort and number stands
-    abbrev Standing : ℕ → Sort → ℕ → Type 0
+    abbrev pub Standing : ℕ → Sort → ℕ → Type 0
     Standing k s n = (b : ℕ) × Stands r k (record { sort = s; number = n; since = b })
 
     -- what is in the tables is a party that stands
-    has_stands : (k : ℕ) → k ≤ length calls → (s : Sort) (n : ℕ) → present (r.tables k) s n ≡ true → Standing k s n
+    pub has_stands : (k : ℕ) → k ≤ length calls → (s : Sort) (n : ℕ) → present (r.tables k) s n ≡ true → Standing k s n
     has_stands zero h s n = λ here. go s (subst (λ (t : Tables). present t s n ≡ true) r.starts here)
       where
         go : (s : Sort) → present roll s n ≡ true → Standing 0 s n
@@ -67,11 +67,11 @@ module _ {m : Meaning} {roll : Tables} {calls : List Call} {answers : List ℕ} 
         not_le a b = omega arith
 
     -- the user's list holds the very program of this number
-    abbrev HeldBy : ℕ → ℕ → ℕ → Type 0
+    abbrev pub HeldBy : ℕ → ℕ → ℕ → Type 0
     HeldBy k u o = (p : Party) × (p.sort ≡ an_object) × (p.number ≡ o) × OnList r k u p
 
     -- each entry of a list is for a program that has stood since
-    entries : (k : ℕ) → k ≤ length calls → (u o : ℕ) → has (user (r.tables k) u).allowed.0 o ≡ true → HeldBy k u o
+    pub entries : (k : ℕ) → k ≤ length calls → (u o : ℕ) → has (user (r.tables k) u).allowed.0 o ≡ true → HeldBy k u o
     entries zero h u o = λ b.
         let b' : has (user roll u).allowed.0 o ≡ true = subst (λ (t : Tables). has (user t u).allowed.0 o ≡ true) r.starts b in
         let there = loaded.sound Lists u (entry_some m roll (user_at roll u) o b') o b' in (

@@ -6,6 +6,7 @@ mod Users
 mod Keeps
 mod Chains
 mod Launches
+pub mod Faith
 mod Made
 pub mod Promised
 mod Forms

@@ -22,7 +22,7 @@ pub use Rattle.histories.proofs.Made.{run_empty, run_snoc}
 pub secure : (m : Meaning) → Lawful m → (roll : Tables) → Loaded m roll → AllSecure m roll
 secure m laws roll loaded calls answers r = record {
   flows = flows_on r laws loaded;
-  keeps = λ k h. let w = whole_at r laws loaded k h in (w.sound Nesting, w.ranged);
+  keeps = λ k h. let w = whole_at r laws loaded k h in (w.sound Nesting, w.peopled, w.ranged);
   listed = launches_listed r laws loaded;
   unwritten = programs_unwritten r;
 }

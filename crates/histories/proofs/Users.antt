@@ -1,8 +1,9 @@
 -- What a granted call does to the users, their allow lists, and the ranges that subjects stay in. Assumes nothing.
-use Rattle.std.proofs.Common.{◌≡◌, ℕ, true, not, ◌&&◌, eqb, ltb, ◌⊎◌, List, get_or, set, is_some, Some, None, Option, unwrap_or, sym, refl, ap, ◌∙◌, subst, inl, inr, arith}
-use Rattle.std.proofs.lemmas.Bool.{true≢false, false≢true, or_cases, and_parts, not_from_true, eqb-true, eq-eqb}
+use Rattle.std.proofs.Common.{◌≡◌, ℕ, ◌<◌, true, not, ◌&&◌, eqb, ltb, ◌⊎◌, List, get_or, set, is_some, Some, None, Option, unwrap_or, sym, refl, ap, ◌∙◌, subst, inl, inr, arith}
+use Rattle.std.proofs.lemmas.Bool.{true≢false, false≢true, or_cases, or_right, and_parts, not_from_true, eqb-true, eq-eqb, ne_eqb, lt-ltb}
 use Rattle.std.specs.Option.{option_map}
 use Rattle.labels.specs.Meaning.{Meaning}
+use Rattle.roll.specs.Formed.{Sized}
 use Rattle.tables.specs.Sets.{has, inserted, without_element}
 use Rattle.tables.proofs.Bitwise.{has_none, has_inserted, has_without}
 use Rattle.tables.specs.declared.types.Kind.TheVariants.{Program}
@@ -153,3 +154,38 @@ module _ (m : Meaning) (t : Tables) where
   entry (Bar s v p) fine u o = at_place (λ y. has (unwrap_or y blank_user).allowed.0 o ≡ true → Entry (Bar s v p) u o) t.users v u (Some (unlisting p (user t v))) (within t.users v fine.1.0)
       (λ e h. let b = in_without (user t v).allowed.0 p o h in inl (subst (λ (w : ℕ). has (user t w).allowed.0 o ≡ true) e b.1, (λ z. z), λ s' e'. b.0 (cc)))
       (λ ne h. inl (h, (λ z. z), λ s' e'. ne (cc)))
+
+  -- an entry stays, unless the call deletes its program or bars it
+  without_other : (n k j : ℕ) → (k ≡ j → ⊥) → has n j ≡ true → has (without_element n k) j ≡ true
+  without_other n k j ne h = has_without n k j ∙ rw (ne_eqb j k (λ e. ne (sym e)), h) refl
+
+  struck_other : (o x : ℕ) → (o ≡ x → ⊥) → (y : Option User) → has (unwrap_or y blank_user).allowed.0 x ≡ true → has (unwrap_or (option_map (unlisting o) y) blank_user).allowed.0 x ≡ true
+  struck_other o x ne None h = h
+  struck_other o x ne (Some u) h = without_other u.allowed.0 o x ne h
+
+  pub list_stays : (c : Call) → AllFine (asks m t c) → (u o : ℕ) → has (user t u).allowed.0 o ≡ true → (Ends c an_object o → ⊥) → ((s : ℕ) → c ≡ Bar s u o → ⊥) → has (user (outcome t c) u).allowed.0 o ≡ true
+  list_stays (Enter v n l) fine u o h on unbar = h
+  list_stays (Launch s p n l) fine u o h on unbar = h
+  list_stays (Leave s) fine u o h on unbar = h
+  list_stays (Read s p) fine u o h on unbar = h
+  list_stays (Write s p) fine u o h on unbar = h
+  list_stays (Create s p n kind l) fine u o h on unbar = h
+  list_stays (Delete s p) fine u o h on unbar =
+      at_map (λ x y. has (unwrap_or x blank_user).allowed.0 o ≡ true → has (unwrap_or y blank_user).allowed.0 o ≡ true) (option_map (unlisting p)) t.users u refl
+      (struck_other p o (λ e. on (refl, sym e))) h
+  list_stays (Move s p q) fine u o h on unbar = h
+  list_stays (Raise s p l) fine u o h on unbar = h
+  list_stays (Mix s p) fine u o h on unbar = h
+  list_stays (Unmix s p) fine u o h on unbar = h
+  list_stays (Rights s p v mask) fine u o h on unbar = h
+  list_stays (Allow s v p) fine u o h on unbar = at_put (λ y. has (unwrap_or y blank_user).allowed.0 o ≡ true) t.users v u (Some (listing p (user t v)))
+      (λ e. has_inserted (user t v).allowed.0 p o ∙ or_right (ltb p 64 && eqb o p) (has (user t v).allowed.0 o) (subst (λ (w : ℕ). has (user t w).allowed.0 o ≡ true) (sym e) h)) h
+  list_stays (Bar s v p) fine u o h on unbar = at_put (λ y. has (unwrap_or y blank_user).allowed.0 o ≡ true) t.users v u (Some (unlisting p (user t v)))
+      (λ e. without_other (user t v).allowed.0 p o (λ f. unbar s (cc (e, f))) (subst (λ (w : ℕ). has (user t w).allowed.0 o ≡ true) (sym e) h)) h
+
+  -- an allowed program is on the list
+  pub list_takes : Sized t → (s u o : ℕ) → AllFine (asks m t (Allow s u o)) → has (user (outcome t (Allow s u o)) u).allowed.0 o ≡ true
+  list_takes size s u o fine =
+      let small : o < 64 = subst (λ (k : ℕ). o < k) size.objects (within t.objects o fine.1.1.0) in
+      at_place (λ y. has (unwrap_or y blank_user).allowed.0 o ≡ true) t.users u u (Some (listing o (user t u))) (within t.users u fine.1.0)
+      (λ _. has_inserted (user t u).allowed.0 o o ∙ rw (lt-ltb o 64 small, eq-eqb o o refl) refl) (λ ne. absurd (ne refl))

@@ -9,7 +9,7 @@ use Rattle.calls.specs.declared.types.Call.{Call}
 use Rattle.calls.specs.declared.types.Call.TheVariants.{Launch, Write}
 use Rattle.calls.specs.Calls.{actor}
 use Rattle.histories.specs.Carries.{an_object}
-use Rattle.histories.specs.Kept.{Ranged}
+use Rattle.histories.specs.Kept.{Peopled, Ranged}
 use Rattle.histories.specs.Runs.{Run, Party, Granted, Stands, label_at, Chain, OnList, call_at}
 
 module _ {m : Meaning} {roll : Tables} {calls : List Call} {answers : List ℕ} (r : Run m roll calls answers) where
@@ -18,10 +18,10 @@ module _ {m : Meaning} {roll : Tables} {calls : List Call} {answers : List ℕ} 
   abbrev pub FlowsOn : Type 0
   FlowsOn = (p q : Party) (i k : ℕ) → Chain r p i q k → Stands r (length calls) q → m.flow (label_at r i p) (label_at r (length calls) q) ≡ true
 
-  -- (b) before every call and after the last, each unmixed container holds the label of everything under it, at any depth, and each subject's
-  -- label is in its user's range
+  -- (b) before every call and after the last, each unmixed container holds the label of everything under it, at any depth, and each subject acts for
+  -- a user that exists, with a label in that user's range
   abbrev pub Keeps : Type 0
-  Keeps = (k : ℕ) → k ≤ length calls → Nested m (r.tables k) × Ranged m (r.tables k)
+  Keeps = (k : ℕ) → k ≤ length calls → Nested m (r.tables k) × Peopled (r.tables k) × Ranged m (r.tables k)
 
   -- (c) if a subject was ever launched and its user was no administrator, that user's list held that very program at the launch
   abbrev pub LaunchesListed : Type 0

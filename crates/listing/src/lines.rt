@@ -13,7 +13,8 @@ use tables::types::{Object, USERS, User};
 fn groups_text(heap: Global, groups: GroupSet) -> Result<String, AllocError>
     ensures { IfOk result (λ s. string_bytes s ≡ members_text (codes ", groups") groups.0) }
 {
-    // Kept: one function writes the members of both sets, and asks them of the wider.
+    // Kept: one function writes the members of both sets, and asks them of the wider. `From<GroupSet> for ObjectSet` could stand only in
+    // `tables`, where no group is an object; a generic `members` would be longer by a trait over the two `contains`, for this one call.
     members(heap, ", groups", ObjectSet(u64::from(groups.0)))
 }
 

@@ -12,7 +12,8 @@ pub struct Refusal {
     pub fault: RollFault,
 }
 
-// Kept: a type that is there to be printed, as the fault is another crate's type, which cannot be given a Display here.
+// Kept: a type that is there to be printed: the fault is another crate's type, which cannot be given a Display here. A Display in
+// `monitor`, which has the type, would give it this report's words, and the guard's programs print the same fault otherwise, by its number.
 impl fmt::Display for Refusal {
     ghost output = { λ e. Text (refusal_text e.fault) };
 

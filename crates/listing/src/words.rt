@@ -8,7 +8,8 @@ use sound::clauses::Clause;
 use tables::sets::Right;
 use tables::types::Kind;
 
-// Kept: the type is another crate's, which cannot be given a Display here; a wrapper round it is longer than the function.
+// Kept: the type is another crate's, so it cannot be given a Display here, and a wrapper round it is longer than the function. A Display
+// in the type's own crate would give it this report's words, and the guard's programs print a fault otherwise, by its number.
 /// What is wrong with a record, in a word or two.
 fn record_word(fault: &RecordFault) -> &'static str
     ensures { result.now ≡ word_of_record fault.now }

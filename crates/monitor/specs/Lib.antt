@@ -1,4 +1,5 @@
 pub mod Faults
 pub mod Loads
+pub mod Guards
 pub mod Marked
 pub mod Decides

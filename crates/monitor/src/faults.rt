@@ -41,8 +41,7 @@ impl RollFault {
     {
         match self {
             RollFault::Record(RecordFault::Bytes(e)) => e.first,
-            RollFault::Record(RecordFault::Form(p)) => *p,
-            RollFault::Record(RecordFault::Order(p)) => *p,
+            RollFault::Record(RecordFault::Form(p) | RecordFault::Order(p)) => *p,
             RollFault::Unsound(_, n) => *n,
         }
     }

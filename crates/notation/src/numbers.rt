@@ -32,7 +32,8 @@ fn read_part(text: &str) -> Option<u16>
 }
 
 /// The parts that are written so, as `a,b;c,d`.
-// Kept: `FromStr` would have to stand with the type, in `labels`, and take the reader of numbers and its proofs there with it.
+// Kept: tried as `FromStr for Parts`, which is refused here, where neither the trait nor the type is this crate's. In `labels`, which
+// has the type, it would need `read_number`, and `labels` uses no other crate.
 pub fn read_parts(text: &str) -> Option<Parts>
     ensures { MatchOption result ((p : PartsOf) → Small p → text.now ≢ notation p) (λ p. Small p × (text.now ≡ notation p)) }
 {

@@ -12,7 +12,8 @@ pub fn split_once(text: &[u8], at: u8) -> Option<(&[u8], &[u8])>
 }
 
 /// The words of a line, one after another.
-// Kept: an iterator of its own beside `str::split`, since a caller may ask whether a word is left, and take one that need not be there.
+// Kept: an iterator of its own. `str::split` gives the same words and is no plainer: its type `Split<char>` does not say that it cuts
+// at spaces, so each function that is lent the words would have to require it.
 #[derive(Drop)]
 pub struct Words<'a> {
     rest: Option<&'a str>,

@@ -1,8 +1,10 @@
 -- The two bytes of the map in front of the rights.
-use Rattle.std.proofs.Common.{◌≡◌, ℕ, suc, ◌+◌, ◌*◌, ◌/◌, ◌%◌, ◌^◌, ◌<◌, ◌≤◌, Bool, true, false, cond, not, eqb, List, [], ◌∷◌, ◌++◌, length, get_or, take, drop, Some, None, Option, sym, refl, ap, ◌∙◌, subst, pow-suc, arith, pow_mono}
+use Rattle.std.proofs.Common.{◌≡◌, ℕ, suc, ◌+◌, ◌*◌, ◌/◌, ◌%◌, ◌^◌, ◌<◌, ◌≤◌, Bool, true, false, cond, not, eqb, List, [], ◌∷◌, ◌++◌, length, get_or, take, drop, Some, None, Option, sym, refl, ap, ◌∙◌, subst, pow-suc, arith, pow_mono, append-nil, append_assoc, length-append}
 use lib.Count.{ones, ones_step}
 use Rattle.std.specs.Int.{from_bool}
-use Rattle.std.proofs.lemmas.List.{take_more, length-take-le}
+use Rattle.std.proofs.lemmas.List.{length_push}
+use Rattle.std.proofs.lemmas.List.Sums.{sum_by-cons}
+use Rattle.std.specs.List.{sum_by, enumerate_from}
 use Rattle.std.specs.Option as options
 use Rattle.std.proofs.lemmas.Bool.{eqb-true, eqb-false, ne_eqb}
 use Rattle.byte_cursor.specs.Bytes.{le}
@@ -80,22 +82,33 @@ one_above : (P : List ℕ) → marks_over P 1 ≡ marks_number P + 2 ^ length P
 one_above [] = omega arith
 one_above (x ∷ P) = let p : 2 ^ suc (length P) ≡ 2 ^ length P * 2 = pow-suc 2 (length P) in omega (arith, one_above P)
 
-placed : (z : Bool) (P : List ℕ) (u : ℕ) → length P ≡ u → u < 16 → (marks_number P + (from_bool (not z) * 2 ^ u) % 65536 < 65536) × (marks_number P + (from_bool (not z) * 2 ^ u) % 65536 ≡ marks_over P (cond z 0 1 + 2 * 0))
-placed true P u e lt =
-    let h : 2 ^ length P ≤ 2 ^ 15 = pow_mono {i = length P} {j = 15} (omega arith) in
-    (omega (arith, marks_lt P), omega arith)
+-- what a user adds to the map, and all of them behind others
+abbrev pub mark : ℕ × ℕ → ℕ
+mark p = (from_bool (not (eqb p.1 0)) * 2 ^ p.0) % 65536
+
+placed : (z : Bool) (P : List ℕ) (u : ℕ) → length P ≡ u → u < 16 → marks_number P + (from_bool (not z) * 2 ^ u) % 65536 ≡ marks_over P (cond z 0 1 + 2 * 0)
+placed true P u e lt = omega arith
 placed false P u e lt =
     let h : 2 ^ u ≤ 2 ^ 15 = pow_mono {i = u} {j = 15} (omega arith) in
     let q : 2 ^ length P ≡ 2 ^ u = ap (λ k. 2 ^ k) e in
-    (omega (arith, marks_lt P), omega (arith, one_above P))
+    omega (arith, one_above P)
 
-pub marks_more : (rs : List ℕ) (u m b : ℕ) → length rs ≡ 16 → u < 16 → m ≡ marks_number (take u rs) → b ≡ from_bool (not (eqb (get_or rs u 0) 0)) → (m + (b * 2 ^ u) % 65536 < 65536) × (m + (b * 2 ^ u) % 65536 ≡ marks_number (take (u + 1) rs))
-marks_more rs u m b n lt is there =
-    let l = length-take-le u rs (omega arith) in
-    let h = placed (eqb (get_or rs u 0) 0) (take u rs) u l lt in
-    let e = ap marks_number (take_more rs u 0 (omega arith)) ∙ marks_snoc (take u rs) (get_or rs u 0) 0 in
-    let same : m + (b * 2 ^ u) % 65536 ≡ marks_number (take u rs) + (from_bool (not (eqb (get_or rs u 0) 0)) * 2 ^ u) % 65536 = λ i. is i + (there i * 2 ^ u) % 65536 in
-    (omega arith, same ∙ h.1 ∙ sym e)
+marks_behind : (P bs : List ℕ) (u : ℕ) → length P ≡ u → length (P ++ bs) ≤ 16 → sum_by mark (enumerate_from u bs) + marks_number P ≡ marks_number (P ++ bs)
+marks_behind P [] u e l = let same : marks_number (P ++ []) ≡ marks_number P = ap marks_number (append-nil P) in omega (arith, same)
+marks_behind P (b ∷ bs) u e l =
+    let lt : u < 16 = omega (arith, length-append P (b ∷ bs)) in
+    let whole : (P ++ b ∷ []) ++ bs ≡ P ++ b ∷ bs = append_assoc P (b ∷ []) bs in
+    let one : marks_number P + mark (u, b) ≡ marks_number (P ++ b ∷ []) = placed (eqb b 0) P u e lt ∙ sym (marks_snoc P b 0) in
+    let more = marks_behind (P ++ b ∷ []) bs (u + 1) (length_push P b ∙ ap (λ k. k + 1) e) (subst (λ (xs : List ℕ). length xs ≤ 16) (sym whole) l) in
+    let first : sum_by mark (enumerate_from u (b ∷ bs)) ≡ mark (u, b) + sum_by mark (enumerate_from (u + 1) bs) = sum_by-cons mark (u, b) (enumerate_from (u + 1) bs) in
+    let same : marks_number ((P ++ b ∷ []) ++ bs) ≡ marks_number (P ++ b ∷ bs) = ap marks_number whole in
+    omega (arith, one, more, first, same)
+
+pub marks_sum : (rs : List ℕ) → length rs ≡ 16 → (sum_by mark (enumerate_from 0 rs) ≡ marks_number rs) × (sum_by mark (enumerate_from 0 rs) < 65536)
+marks_sum rs e =
+    let s : sum_by mark (enumerate_from 0 rs) + 0 ≡ marks_number rs = marks_behind [] rs 0 refl (omega (arith, e)) in
+    let lt : marks_number rs < 65536 = subst (λ n. marks_number rs < 2 ^ n) e (marks_lt rs) in
+    (omega (arith, s), omega (arith, s, lt))
 
 ones_front : (z : Bool) (b M : ℕ) (bs : List ℕ) → ones M ≡ length bs → ones (cond z 0 1 + 2 * M) ≡ length (cond z bs (b ∷ bs))
 ones_front true b M bs e =

@@ -41,6 +41,8 @@ pub enum Record {
 }
 
 /// The numbers of the kinds in a record's head.
+// Kept: numbers, as they stand in a roll: an enum of them with `TryFrom<u8>` is no plainer, as it would be a third list of the same three
+// kinds, beside `Record` and the match in `read_record`.
 impl Record {
     pub const USER: u8 = 1;
 

@@ -40,6 +40,8 @@ impl GroupRecord {
 }
 
 /// The map of a group's fields that are not zero.
+// Kept: a sum of named bits, and no `map_of<const N: usize>([bool; N])` for the three maps here and that of a call's arguments: the readers
+// ask for the same bits by name, and an array would tell them by their place in it alone.
 pub fn group_map(g: &GroupRecord) -> u8
     ensures { result ≡ groups.map g.now }
 {
@@ -80,6 +82,7 @@ impl UserRecord {
 }
 
 /// The map of a user's fields that are not zero.
+// Kept: as above.
 pub fn user_map(u: &UserRecord) -> u8
     ensures { result ≡ users.map u.now }
 {
@@ -91,7 +94,7 @@ pub fn user_map(u: &UserRecord) -> u8
 }
 
 /// The fields of a user.
-// Kept: as above.
+// Kept: as at `group`.
 fn user(c: &mut Cursor, head: Head) -> Result<UserRecord, RecordFault>
     ensures { MatchResult result (Taken users head.map head.number c.old c.new) (Failed users head.map head.number c.old) }
 {
@@ -133,10 +136,13 @@ impl ObjectRecord {
 
     const RIGHTS: u8 = 64;
 
+    // Kept: a number, since a record has the byte of the kind as it stands in a roll: the enum `Kind` is of `tables`, which this crate does
+    // not use, and one here would be a second list of the same three kinds.
     const LAST_KIND: u8 = 2;
 }
 
 /// The map of an object's fields that are not zero.
+// Kept: as above.
 pub fn object_map(o: &ObjectRecord) -> u8
     ensures { result ≡ objects.map o.now }
 {
@@ -150,7 +156,7 @@ pub fn object_map(o: &ObjectRecord) -> u8
 }
 
 /// The fields of an object.
-// Kept: as above.
+// Kept: as at `group`.
 fn object(c: &mut Cursor, head: Head) -> Result<ObjectRecord, RecordFault>
     ensures { MatchResult result (Taken objects head.map head.number c.old c.new) (Failed objects head.map head.number c.old) }
 {
@@ -184,7 +190,8 @@ pub fn read_record(c: &mut Cursor) -> Result<Record, RecordFault>
     c.begin();
     let [map, kind, number] = *c.array::<3>()?;
     let head = Head { map, number };
-    // Kept: three kinds of records, a closed set; each arm has the room of its own table.
+    // Kept: a match over the number that the format has for a kind: an enum of the numbers is no plainer, as it would be a third list of the
+    // same three kinds, beside `Record` and this match, in which each arm has the room of its own table.
     match kind {
         Record::USER if number < UserRecord::ROOM && map < UserRecord::MAPS => {
             Ok(Record::User(user(c, head)?))

@@ -13,10 +13,9 @@ fn spread(marks: u16, bytes: &[u8]) -> Option<[u8; 16]>
     ensures { MatchOption result ((rs : _) → Marked marks bytes.now rs → ⊥) (Marked marks bytes.now) }
 {
     let mut rights = [0; 16];
-    let mut users = marks;
     let mut left = bytes;
-    for right in &mut rights {
-        if users % 2 == 1 {
+    for (user, right) in rights.iter_mut().enumerate() {
+        if marks >> user & 1 == 1 {
             let (&byte, rest) = left.split_first()?;
             if byte == 0 || byte > ALL_RIGHTS {
                 return None;
@@ -24,7 +23,6 @@ fn spread(marks: u16, bytes: &[u8]) -> Option<[u8; 16]>
             *right = byte;
             left = rest;
         }
-        users /= 2;
     }
     left.is_empty().then_some(rights)
 }
@@ -48,11 +46,11 @@ pub fn read_rights(part: &[u8]) -> Option<[u8; 16]>
 pub fn marks_of(rights: &[u8; 16]) -> u16
     ensures { result ≡ marks_number rights.now }
 {
-    let mut marks = 0;
-    for (user, right) in rights.iter().enumerate() {
-        marks += u16::from(*right != 0) << user;
-    }
-    marks
+    rights
+        .iter()
+        .enumerate()
+        .map(|(user, right)| u16::from(*right != 0) << user)
+        .sum()
 }
 
 /// The rights field as a part, where it is `there`: a map of users, and a byte for each user in it.

@@ -1,1 +1,2 @@
 mod Mixes
+mod Altering

@@ -2,9 +2,10 @@
 ghost use Rattle.std.specs.Prelude.{◌≡◌, Decides};
 ghost use Rattle.tables.specs.State.{user as user_of};
 ghost use Rattle.sound.specs.Nesting.{InRange};
+ghost use Rattle.sound.specs.Views.{seen};
 ghost use Rattle.rules.specs.Views.{Answers};
 
-use crate::named::{may_alter, parties};
+use crate::named::{alter, parties};
 use calls::types::{Call, Refusal};
 use labels::Scheme;
 use sound::views::View;
@@ -13,7 +14,7 @@ use tables::types::{Kind, SUBJECTS};
 
 /// Is `label` in the range of `user`? One that does not exist has the range from 0 to 0.
 fn in_range<S: Scheme>(v: &View<S>, user: u8, label: u64) -> bool
-    ensures { Decides result (InRange (S.Scheme.meaning v.now.scheme.now) (user_of v.now.tables.now user) label) }
+    ensures { Decides result (seen S.Scheme.meaning v.now (λ m t. InRange m (user_of t user) label)) }
 {
     let (floor, top) = v.tables.user(user).map_or((0, 0), |u| (u.floor, u.top));
     v.scheme.flows(floor, label) && v.scheme.flows(label, top)
@@ -49,6 +50,7 @@ pub(crate) fn leave<S: Scheme>(v: &View<S>, subject: u8) -> Result<(), Refusal>
 }
 
 /// A subject reads an object.
+// Kept: as `may_alter`, with the flow turned; one function for both would take the two labels at each call.
 pub(crate) fn read<S: Scheme>(v: &View<S>, subject: u8, object: u8) -> Result<(), Refusal>
     ensures { Answers S.Scheme.meaning v.now (Call.Read subject object) result }
 {
@@ -66,11 +68,7 @@ pub(crate) fn read<S: Scheme>(v: &View<S>, subject: u8, object: u8) -> Result<()
 pub(crate) fn write<S: Scheme>(v: &View<S>, subject: u8, object: u8) -> Result<(), Refusal>
     ensures { Answers S.Scheme.meaning v.now (Call.Write subject object) result }
 {
-    let (s, o) = parties(v.tables, subject, object)?;
-    match o.kind {
-        Kind::File => may_alter(v, s, o, Right::Write),
-        _ => Err(Refusal::WrongKind),
-    }
+    alter(v, subject, object, Kind::File, Right::Write)
 }
 
 /// A subject launches a program as a new subject.
@@ -96,6 +94,7 @@ pub(crate) fn launch<S: Scheme>(
     }
     let listed = v.tables.is_listed(s.user, program);
     let admin = v.tables.is_admin(s.user);
+    // Kept: a match over the kind with guards, by a rule of the project.
     match o.kind {
         Kind::Program if !v.tables.has_right(s.user, o, Right::Execute) => Err(Refusal::NoRight),
         Kind::Program if !listed && !admin => Err(Refusal::NotListed),

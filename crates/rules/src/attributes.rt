@@ -1,8 +1,8 @@
 //! The calls that set the label and the mixed mark of an object.
 ghost use Rattle.rules.specs.Views.{Answers};
 
-use crate::named::{may_alter, parties};
-use crate::nests::{label_of, nests_at};
+use crate::named::{alter, may_alter, parties};
+use crate::nests::nests_at;
 use calls::types::{Call, Refusal};
 use labels::Scheme;
 use sound::views::View;
@@ -13,11 +13,7 @@ use tables::types::Kind;
 pub(crate) fn mix<S: Scheme>(v: &View<S>, subject: u8, object: u8) -> Result<(), Refusal>
     ensures { Answers S.Scheme.meaning v.now (Call.Mix subject object) result }
 {
-    let (s, o) = parties(v.tables, subject, object)?;
-    match o.kind {
-        Kind::Container => may_alter(v, s, o, Right::WriteAttributes),
-        _ => Err(Refusal::WrongKind),
-    }
+    alter(v, subject, object, Kind::Container, Right::WriteAttributes)
 }
 
 /// A subject marks a container as unmixed, which asks what marking it as mixed asks, and that it holds what lies under it.
@@ -25,7 +21,7 @@ pub(crate) fn unmix<S: Scheme>(v: &View<S>, subject: u8, object: u8) -> Result<(
     ensures { Answers S.Scheme.meaning v.now (Call.Unmix subject object) result }
 {
     mix(v, subject, object)?;
-    if !v.holds_under(object, label_of(v.tables, object)) {
+    if !v.holds_under(object, v.tables.label_of(object)) {
         return Err(Refusal::WontNest);
     }
     Ok(())

@@ -8,6 +8,9 @@ use sound::views::View;
 use tables::sets::Right;
 use tables::types::Kind;
 
+/// The set of all seven rights: a greater byte has bit 7.
+const ALL_RIGHTS: u8 = 127;
+
 /// A subject gives a user a set of rights on an object.
 pub(crate) fn rights<S: Scheme>(
     v: &View<S>,
@@ -20,7 +23,7 @@ pub(crate) fn rights<S: Scheme>(
 {
     let (s, o) = parties(v.tables, subject, object)?;
     v.tables.user(user).ok_or(Refusal::NobodyThere)?;
-    if mask >= 128 {
+    if mask > ALL_RIGHTS {
         return Err(Refusal::WrongKind);
     }
     may_alter(v, s, o, Right::ChangeRights)
@@ -37,6 +40,7 @@ pub(crate) fn allow<S: Scheme>(
 {
     let (s, o) = parties(v.tables, subject, program)?;
     v.tables.user(user).ok_or(Refusal::NobodyThere)?;
+    // Kept: a match over the kind with guards, by a rule of the project.
     match o.kind {
         Kind::Program if v.tables.is_admin(s.user) => Ok(()),
         Kind::Program => Err(Refusal::NotListed),

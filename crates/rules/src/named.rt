@@ -2,13 +2,15 @@
 ghost use Rattle.std.specs.Prelude.{◌≡◌, MatchResult};
 ghost use Rattle.calls.specs.declared.types.Refusal.TheVariants.{NobodyThere};
 ghost use Rattle.sound.specs.Views.{seen};
-ghost use Rattle.rules.specs.Parties.{Found, Missing, Alters};
+ghost use Rattle.rules.specs.Parties.{Found, Missing, Alters, altering};
+ghost use Rattle.calls.specs.Calls.{Answered};
+ghost use Rattle.calls.specs.Refusals.{answer_number};
 
 use calls::types::Refusal;
 use labels::Scheme;
 use sound::views::View;
 use tables::sets::Right;
-use tables::types::{Object, Subject, Tables};
+use tables::types::{Kind, Object, Subject, Tables};
 
 /// The subject and the object that a call names, if both are there.
 pub(crate) fn parties(t: &Tables, subject: u8, object: u8) -> Result<(&Subject, &Object), Refusal>
@@ -19,7 +21,6 @@ pub(crate) fn parties(t: &Tables, subject: u8, object: u8) -> Result<(&Subject, 
     Ok((s, o))
 }
 
-// Kept: the two tests, one behind the other, stand here once for five calls.
 /// May a subject alter an object: has its user this right on it, and does its label flow to the object's?
 pub(crate) fn may_alter<S: Scheme>(
     v: &View<S>,
@@ -36,4 +37,21 @@ pub(crate) fn may_alter<S: Scheme>(
         return Err(Refusal::WrongWay);
     }
     Ok(())
+}
+
+/// May a subject alter an object, if it is of this kind, by this right?
+pub(crate) fn alter<S: Scheme>(
+    v: &View<S>,
+    subject: u8,
+    object: u8,
+    kind: Kind,
+    right: Right,
+) -> Result<(), Refusal>
+    ensures { seen S.Scheme.meaning v.now (λ m t. Answered (altering m t subject object kind right) (answer_number result)) }
+{
+    let (s, o) = parties(v.tables, subject, object)?;
+    if o.kind != kind {
+        return Err(Refusal::WrongKind);
+    }
+    may_alter(v, s, o, right)
 }

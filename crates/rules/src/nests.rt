@@ -1,6 +1,5 @@
 //! What the calls ask of the tree: that labels nest, and that an object can be taken away.
 ghost use Rattle.std.specs.Prelude.{◌≡◌, Decides, ◌≢◌};
-ghost use Rattle.tables.specs.State.{object as object_of};
 ghost use Rattle.tables.specs.Ways.{Above};
 ghost use Rattle.sound.specs.Nesting.{Unmixed, HeldAbove, HoldsUnder, HeldOverAt};
 ghost use Rattle.sound.specs.Views.{seen};
@@ -11,18 +10,12 @@ use sound::ends::objects_end;
 use sound::views::View;
 use tables::types::{Kind, Tables};
 
-/// The label of object `o`: 0 if there is no such object.
-pub(crate) fn label_of(t: &Tables, o: u8) -> u64
-    ensures { result ≡ (object_of t.now o).label }
-{
-    t.object(o).map_or(0, |x| x.label)
-}
-
 /// If object `o` is an unmixed container, does `label` hold what lies under it?
 fn holds_inside<S: Scheme>(v: &View<S>, o: u8, label: u64) -> bool
     ensures { Decides result (Unmixed v.now.tables.now o → seen S.Scheme.meaning v.now HoldsUnder o label) }
 {
-    // Kept: the guard for mixed is to be one of a match over the kind; `is_none_or` around that match was tried, and its proof didn't close.
+    // Kept: the guard for mixed is one of a match over the kind by a rule of the project (docs/DECISIONS.md); with `is_none_or` around the match the
+    // proof didn't close.
     let Some(x) = v.tables.object(o) else {
         return true;
     };
@@ -45,7 +38,7 @@ fn all_fit<S: Scheme>(v: &View<S>, o: u8, q: u8) -> bool
     ensures { Decides result (seen S.Scheme.meaning v.now AllHeldAbove o q) }
 {
     (0..objects_end(&v.tables.objects)).all(|x| !v.tables.lies_under(x, o)
-        || v.held_above(q, label_of(v.tables, x)))
+        || v.held_above(q, v.tables.label_of(x)))
 }
 
 /// Can object `o`, labelled `label`, be put under `q`: is `q` neither `o` nor under it, and does each unmixed container that is `q` or above it

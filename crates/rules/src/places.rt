@@ -3,7 +3,7 @@ ghost use Rattle.std.specs.Prelude.{◌≡◌, true, Decides};
 ghost use Rattle.rules.specs.Views.{Answers};
 
 use crate::named::{may_alter, parties};
-use crate::nests::{fits_under, is_removable, label_of};
+use crate::nests::{fits_under, is_removable};
 use calls::types::{Call, Refusal};
 use labels::Scheme;
 use sound::views::View;
@@ -35,6 +35,7 @@ pub(crate) fn create<S: Scheme>(
     }
     let kind = Kind::try_from(kind)?;
     let admin = v.tables.is_admin(s.user);
+    // Kept: a match over the kind with guards, by a rule of the project.
     match p.kind {
         Kind::Container if !v.tables.has_right(s.user, p, Right::Create) => Err(Refusal::NoRight),
         Kind::Container if kind == Kind::Program && !admin => Err(Refusal::NotListed),
@@ -52,7 +53,7 @@ pub(crate) fn delete<S: Scheme>(v: &View<S>, subject: u8, object: u8) -> Result<
 {
     let (s, o) = parties(v.tables, subject, object)?;
     may_alter(v, s, o, Right::Delete)?;
-    if !v.scheme.flows(s.label, label_of(v.tables, o.parent)) {
+    if !v.scheme.flows(s.label, v.tables.label_of(o.parent)) {
         return Err(Refusal::WrongWay);
     }
     if !is_removable(v.tables, object) {
@@ -82,7 +83,8 @@ pub(crate) fn move_object<S: Scheme>(
 {
     let (s, o) = parties(v.tables, subject, object)?;
     let q = v.tables.object(parent).ok_or(Refusal::NobodyThere)?;
-    let old = label_of(v.tables, o.parent);
+    let old = v.tables.label_of(o.parent);
+    // Kept: as in `create`.
     match q.kind {
         Kind::Container if !v.tables.has_right(s.user, o, Right::Delete) => Err(Refusal::NoRight),
         Kind::Container if !v.tables.has_right(s.user, q, Right::Create) => Err(Refusal::NoRight),

@@ -1,5 +1,5 @@
 -- Calls that are answered one after another. Assumes nothing.
-use Rattle.std.proofs.Common.{◌≡◌, ℕ, suc, ◌+◌, ◌*◌, ◌/◌, ◌<◌, ◌≤◌, List, [], ◌∷◌, ◌++◌, length, get_or, drop, set, Ok, Err, Result, sym, refl, ap, ◌∙◌, subst, append_assoc, arith, length-append, drop-cons}
+use Rattle.std.proofs.Common.{◌≡◌, ℕ, suc, ◌+◌, ◌*◌, ◌/◌, ◌<◌, ◌≤◌, List, [], ◌∷◌, ◌++◌, length, get_or, drop, set, Ok, Err, Option, Result, sym, refl, ap, ◌∙◌, subst, append_assoc, arith, length-append, drop-cons}
 use lib.Seq.{set_at}
 use Rattle.std.specs.List.{flat_map}
 use Rattle.labels.specs.Meaning.{Meaning}
@@ -25,7 +25,7 @@ use Rattle.monitor.specs.Loads.{Tells}
 use Rattle.monitor.proofs.Answers.{one_answer}
 use Rattle.stream.proofs.Sure.{one_reading}
 use Rattle.session.specs.declared.outcomes.Stop.TheVariants.{BadCall, BadRoll, NoRoom}
-use Rattle.session.specs.Sessions.{End, Stretch, Ran, OneRun}
+use Rattle.session.specs.Sessions.{End, Answered, Stretch, Ran, OneRun}
 
 -- n calls were answered from the tables `start` on, which are now t; the cursor stands behind the calls, and the buffer holds their answers
 pub record Going (m : Meaning) (start : Tables) (stream : List ℕ) (c : Cursor) (n : ℕ) (before now : List ℕ) (t : Tables) : Type 0 where
@@ -132,3 +132,17 @@ one m roll stream t u xs ys e f p q tells told reads read r s =
     let same : t ≡ u = (one_answer m roll (Ok tt) (Ok tt) t u tells told).1 in
     let calls = one_reading stream xs ys e f reads read in
     (one_run (subst (λ (l : List Call). Run m u l p) calls.0 (subst (λ (w : Tables). Run m w xs p) same r)) s, calls.1)
+
+-- there is room for the answers in the buffer that holds them
+answered_fits : {m : Meaning} {start : Tables} {stream : List ℕ} {end : Option CallFault} {n : ℕ} {before after : List ℕ} {last : Tables} → Answered m start stream end n before after last → n ≤ length after
+answered_fits {n} {before} {after} a =
+    let e : length after ≡ length a.answers + length (drop n before) = ap length a.written ∙ length-append a.answers (drop n before) in
+    let f = a.run.as_many in
+    let is = a.counted in
+    omega arith
+
+pub stretch_fits : (m : Meaning) (start : Tables) (stream : List ℕ) (n : ℕ) (end : End) (before after : List ℕ) (last : Tables) → Stretch m start stream n end before after last → n ≤ length after
+stretch_fits m start stream n (Err NoRoom) before after last s = absurd s
+stretch_fits m start stream n (Err (BadRoll f)) before after last s = absurd s
+stretch_fits m start stream n (Err (BadCall f)) before after last s = answered_fits s
+stretch_fits m start stream n (Ok x) before after last s = answered_fits s

@@ -2,6 +2,7 @@
 ghost use Rattle.std.specs.Prelude.{◌≡◌, ◌/◌, ◌≤◌, length};
 ghost use Rattle.calls.specs.Refusals.{answer_number};
 ghost use Rattle.histories.specs.Kept.{Kept};
+ghost use Rattle.monitor.specs.Guards.{within};
 ghost use Rattle.session.specs.Sessions.{Stretch, Ran, OneRun};
 
 use crate::outcomes::{Outcome, Stop};
@@ -12,7 +13,7 @@ use monitor::Guard;
 use stream::next_call;
 
 /// The number of an answer: 0 for a granted call, else that of the refusal.
-// Kept: `Result` and `u8` are std's, so `From` between them cannot be written here.
+// Kept: `Result` and `u8` are std's, so `From` between them cannot be written here; a trait for this and `Outcome::number` is longer than the two.
 fn number_of(answer: Result<(), Refusal>) -> u8
     ensures { result ≡ answer_number answer }
 {
@@ -24,7 +25,7 @@ fn number_of(answer: Result<(), Refusal>) -> u8
 fn answer_all<S: Scheme>(guard: &mut Guard<S>, calls: &[u8], answers: &mut [u8]) -> Outcome
     requires { length calls.now / 2 ≤ length answers.old }
     ensures ran { Stretch (S.Scheme.meaning guard.old.scheme) guard.old.tables calls.now result.answered result.end answers.old answers.new guard.new.tables }
-    ensures kept { Kept (S.Scheme.meaning guard.old.scheme) guard.old.tables → Kept (S.Scheme.meaning guard.old.scheme) guard.new.tables }
+    ensures kept { within S.Scheme.meaning guard.old Kept → within S.Scheme.meaning guard.new Kept }
     ensures scheme { guard.new.scheme ≡ guard.old.scheme }
 {
     let mut c = Cursor::new(calls);
@@ -62,7 +63,8 @@ pub fn run<S: Scheme>(
 ) -> Outcome
     ensures ran { Ran (S.Scheme.meaning guard.old.scheme) roll.now calls.now result.answered result.end answers.old answers.new guard.old.tables guard.new.tables }
     ensures one { OneRun (S.Scheme.meaning guard.old.scheme) }
-    ensures kept { Kept (S.Scheme.meaning guard.old.scheme) guard.old.tables → Kept (S.Scheme.meaning guard.old.scheme) guard.new.tables }
+    ensures fits { result.answered ≤ length answers.new }
+    ensures kept { within S.Scheme.meaning guard.old Kept → within S.Scheme.meaning guard.new Kept }
     ensures scheme { guard.new.scheme ≡ guard.old.scheme }
 {
     if answers.len() < calls.len() / 2 {

@@ -19,9 +19,13 @@ Holds m t a l = m.hold (object t a).label l ≡ true
 abbrev pub HeldAbove : Meaning → Tables → ℕ → ℕ → Type 0
 HeldAbove m t p l = (a : ℕ) → Above t p a → Unmixed t a → Holds m t a l
 
+-- l holds the label of x, if x lies under o
+abbrev pub HoldsOne : Meaning → Tables → ℕ → ℕ → ℕ → Type 0
+HoldsOne m t o l x = Under t x o → m.hold l (object t x).label ≡ true
+
 -- l holds the label of every object under o
 abbrev pub HoldsUnder : Meaning → Tables → ℕ → ℕ → Type 0
-HoldsUnder m t o l = (x : ℕ) → Under t x o → m.hold l (object t x).label ≡ true
+HoldsUnder m t o l = (x : ℕ) → HoldsOne m t o l x
 
 -- each unmixed container over o holds l
 abbrev pub HeldOverAt : Meaning → Tables → ℕ → ℕ → Type 0

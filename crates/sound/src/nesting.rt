@@ -2,7 +2,7 @@
 ghost use Rattle.std.specs.Prelude.{◌≡◌, true, Decides};
 ghost use Rattle.tables.specs.State.{object};
 ghost use Rattle.tables.specs.Ways.{Under};
-ghost use Rattle.sound.specs.Nesting.{Unmixed, Holds, HeldAbove, HoldsUnder, HeldOver, HeldOverAt, Nested};
+ghost use Rattle.sound.specs.Nesting.{Unmixed, Holds, HeldAbove, HoldsOne, HoldsUnder, HeldOver, HeldOverAt, Nested};
 ghost use Rattle.sound.specs.Views.{seen};
 
 use crate::ends::objects_end;
@@ -28,7 +28,8 @@ impl<S: Scheme> View<'_, S> {
         if !self.held_at(p, l) {
             return false;
         }
-        // Kept: a loop, since it leaves the walk at four places, and `successors` would still have to count the steps.
+        // Kept: a loop, since it leaves the walk at four places, and `successors` would still have to count the steps; a chain over all objects, with
+        // `is_above` for each, walks up once for each of 64.
         // Kept: `climbs` of tables is the same walk with another test at each step; with a closure for it, it would have to promise the way that it took.
         let mut at = p;
         for _step in 0..objects_end(&self.tables.objects) {
@@ -48,7 +49,7 @@ impl<S: Scheme> View<'_, S> {
 
     /// Does label `l` hold the label of `x`, if `x` lies under `o`?
     fn holds_one(&self, o: u8, l: u64, x: u8) -> bool
-        ensures { Decides result (Under self.now.tables.now x o → (S.Scheme.meaning self.now.scheme.now).hold l (object self.now.tables.now x).label ≡ true) }
+        ensures { Decides result (seen S.Scheme.meaning self.now HoldsOne o l x) }
     {
         self.tables.object(x).is_none_or(|y| !self.tables.lies_under(x, o)
             || self.scheme.holds(l, y.label))
@@ -68,7 +69,7 @@ impl<S: Scheme> View<'_, S> {
         if o == 0 {
             return true;
         }
-        // Kept: `is_none_or` was tried, here and in `held_over`, and neither proof closed.
+        // Kept: `is_none_or` was tried, and its proof didn't close.
         let Some(x) = self.tables.object(o) else {
             return true;
         };
@@ -79,11 +80,7 @@ impl<S: Scheme> View<'_, S> {
     fn held_over(&self, x: u8) -> bool
         ensures { Decides result (seen S.Scheme.meaning self.now HeldOver x) }
     {
-        // Kept: as above.
-        let Some(object) = self.tables.object(x) else {
-            return true;
-        };
-        self.held_over_at(x, object.label)
+        self.held_over_at(x, self.tables.label_of(x))
     }
 
     /// Does each unmixed container hold the label of every object under it, at any depth?

@@ -20,7 +20,8 @@ struct Arguments {
     label: u64,
 }
 
-// Kept: a match over the number that the format has for a call; an enum of them would be a third list of the same fourteen.
+// Kept: one of three matches over the number that the format has for a call: they give its arguments, the call where none is a label, and
+// any call. An enum of the numbers would be one more list of the fourteen calls, beside `Call`, and leave the three matches.
 /// The map with the label's bit at bit 4, behind those of four bytes: `None` where no call has the number, or a bit stands for no argument.
 fn full_map(number: u8, bits: u8) -> Option<u8>
     ensures { MatchOption result (Known number bits → ⊥) (λ m. Known number bits × (m ≡ spread_map (kept number) bits)) }
@@ -37,16 +38,29 @@ fn full_map(number: u8, bits: u8) -> Option<u8>
     }
 }
 
+/// The bit of each argument in a full map.
+impl Arguments {
+    const FIRST: u8 = 1;
+
+    const SECOND: u8 = 2;
+
+    const THIRD: u8 = 4;
+
+    const FOURTH: u8 = 8;
+
+    const LABEL: u8 = 16;
+}
+
 impl Arguments {
     /// The arguments in a full map.
     fn read(c: &mut Cursor, map: u8) -> Result<Arguments, CursorFault>
         ensures { MatchResult result (λ p. Reads map five (listed p) c.old c.new) (λ e. (e.first ≡ c.old.first) × (length (left c.old) < size_of map five)) }
     {
-        let first = c.field(map & 1 != 0)?;
-        let second = c.field(map & 2 != 0)?;
-        let third = c.field(map & 4 != 0)?;
-        let fourth = c.field(map & 8 != 0)?;
-        let label = c.field(map & 16 != 0)?;
+        let first = c.field(map & Arguments::FIRST != 0)?;
+        let second = c.field(map & Arguments::SECOND != 0)?;
+        let third = c.field(map & Arguments::THIRD != 0)?;
+        let fourth = c.field(map & Arguments::FOURTH != 0)?;
+        let label = c.field(map & Arguments::LABEL != 0)?;
         Ok(Arguments {
             first,
             second,
@@ -57,14 +71,16 @@ impl Arguments {
     }
 
     /// The full map of the arguments that are not zero.
+    // Kept: a sum of named bits, and no `map_of<const N: usize>([bool; N])` for this and the three maps of records: `read` asks for the
+    // same bits by name, and an array would tell them by their place in it alone.
     fn map(&self) -> u8
         ensures { result ≡ map_number (listed self.now) }
     {
-        u8::from(self.first != 0)
-            + 2 * u8::from(self.second != 0)
-            + 4 * u8::from(self.third != 0)
-            + 8 * u8::from(self.fourth != 0)
-            + 16 * u8::from(self.label != 0)
+        Arguments::FIRST * u8::from(self.first != 0)
+            + Arguments::SECOND * u8::from(self.second != 0)
+            + Arguments::THIRD * u8::from(self.third != 0)
+            + Arguments::FOURTH * u8::from(self.fourth != 0)
+            + Arguments::LABEL * u8::from(self.label != 0)
     }
 
     // Kept: as at `full_map`.
@@ -153,7 +169,8 @@ fn read_call(c: &mut Cursor) -> Result<Call, CallFault>
     Ok(a.call(number))
 }
 
-// Kept: a function and no iterator: an iterator of calls has to end behind a bad one, so it would carry a mark beside its cursor.
+// Kept: a function over a lent cursor and no iterator: an iterator would have to say what it gives behind a call that cannot be read, and
+// the one caller stops there.
 /// The next call, or `None` at the end of the bytes. A call that was written is read back.
 pub fn next_call(c: &mut Cursor) -> Option<Result<Call, CallFault>>
     ensures next { MatchOption result ((left c.old ≡ []) × (c.new ≡ c.old)) (λ q. (0 < length (left c.old)) × MatchResult q (λ x. InForm x × Took c.old c.new (encode x)) (Faulty c.old.place (left c.old))) }

@@ -1,7 +1,7 @@
 //! Reading the tables by number.
 ghost use Rattle.std.specs.Prelude.{◌≡◌};
 ghost use Rattle.std.specs.Option.{option_map};
-ghost use Rattle.tables.specs.State.{user_at, group_at, subject_at, object_at, blank};
+ghost use Rattle.tables.specs.State.{user_at, group_at, subject_at, object_at, object, blank};
 
 use crate::sets::Rights;
 use crate::slots::slot;
@@ -47,5 +47,12 @@ impl Tables {
         ensures { option_map (λ x. x.now) result ≡ object_at self.now o }
     {
         slot(&self.objects, o)
+    }
+
+    /// The label of object `o`: 0 if there is no such object.
+    pub fn label_of(&self, o: u8) -> u64
+        ensures { result ≡ (object self.now o).label }
+    {
+        self.object(o).map_or(0, |x| x.label)
     }
 }

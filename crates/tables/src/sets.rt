@@ -52,7 +52,7 @@ impl Rights {
     pub fn contains(self, right: Right) -> bool
         ensures { result ≡ has self.0 (bit_of right) }
     {
-        has_bit(self.0 as u64, right.bit())
+        has_bit(u64::from(self.0), right.bit())
     }
 }
 
@@ -62,7 +62,7 @@ impl GroupSet {
     pub fn contains(self, g: u8) -> bool
         ensures { result ≡ has self.0 g }
     {
-        has_bit(self.0 as u64, g)
+        has_bit(u64::from(self.0), g)
     }
 }
 

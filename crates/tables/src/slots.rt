@@ -25,7 +25,7 @@ pub(crate) fn change<T: Copy, F: FnOnce(&mut T)>(table: &mut [Option<T>], i: u8,
     requires { F.IsAlwaysCallable change }
     ensures { (g : T → T) → ((x y : T) → FnOnceReturnsAtMut F.FnOnce change x tt y → y ≡ g x) → table.new ≡ slice_set table.old i (option_map g (slice_index_or table.old i None)) }
 {
-    // Kept: the value is copied out and put back, for the same reason.
+    // Kept: the value is copied out and put back, since through `get_mut` one learns nothing of the other slots, as said at `put`.
     if let Some(mut x) = slot(table, i).copied() {
         change(&mut x);
         put(table, i, Some(x));

@@ -1,5 +1,5 @@
 -- The lines of answers one after another, and what a run printed. Assumes nothing.
-use Rattle.std.proofs.Common.{◌≡◌, ℕ, suc, ◌+◌, ◌/◌, ◌<◌, ◌≤◌, List, [], ◌∷◌, ◌++◌, length, get_or, take, drop, Ok, Err, Option, sym, ap, ◌∙◌, append_assoc, append-nil, arith, length-append, take-append-drop, length-take-le, take-suc, take_at}
+use Rattle.std.proofs.Common.{◌≡◌, ℕ, suc, ◌+◌, ◌/◌, ◌<◌, List, [], ◌∷◌, ◌++◌, length, get_or, take, drop, Ok, Err, Option, sym, ap, ◌∙◌, append_assoc, append-nil, arith, length-take-le, take-suc, take_at}
 use Rattle.labels.specs.Meaning.{Meaning}
 use Rattle.tables.specs.declared.types.Tables.{Tables}
 use Rattle.stream.specs.declared.faults.CallFault.{CallFault}
@@ -15,13 +15,14 @@ lines_snoc j (x ∷ xs) a =
     ap (λ (l : List ℕ). line_of j x ++ l) (lines_snoc (suc j) xs a ∙ ap (λ (k : ℕ). lines_from (suc j) xs ++ line_of k a) e)
     ∙ sym (append_assoc (line_of j x) (lines_from (suc j) xs) (line_of (j + suc (length xs)) a))
 
-pub stepped : (l : List ℕ) (k : ℕ) (out more line : List ℕ) → k < length l → out ≡ lines_from 0 (take k l) → more ≡ out ++ line → line ≡ line_of k (get_or l k 0) → more ≡ lines_from 0 (take (k + 1) l)
-stepped l k out more line h sofar e is =
+pub stepped : (l : List ℕ) (k : ℕ) (out more : List ℕ) → k < length l → out ≡ lines_from 0 (take k l) → more ≡ out ++ line_of k (get_or l k 0) → more ≡ lines_from 0 (take (k + 1) l)
+stepped l k out more h sofar e =
     let long : length (take k l) ≡ k = length-take-le k l (omega arith) in
     let s : suc k ≡ k + 1 = omega arith in
-    let z : length (take k l) ≡ 0 + length (take k l) = omega arith in
-    e ∙ ap (λ (a : List ℕ). a ++ line) sofar ∙ ap (λ (b : List ℕ). lines_from 0 (take k l) ++ b) (is ∙ ap (λ (n : ℕ). line_of n (get_or l k 0)) (sym long))
-    ∙ ap (λ (n : ℕ). lines_from 0 (take k l) ++ line_of n (get_or l k 0)) z ∙ sym (lines_snoc 0 (take k l) (get_or l k 0)) ∙ ap (lines_from 0) (sym (take-suc l k 0 h)) ∙ ap (λ (n : ℕ). lines_from 0 (take n l)) s
+    let z : k ≡ 0 + length (take k l) = omega (arith, long) in
+    let line : ℕ → List ℕ = λ n. line_of n (get_or l k 0) in
+    e ∙ ap (λ (a : List ℕ). a ++ line k) sofar ∙ ap (λ (n : ℕ). lines_from 0 (take k l) ++ line n) z
+    ∙ sym (lines_snoc 0 (take k l) (get_or l k 0)) ∙ ap (lines_from 0) (sym (take-suc l k 0 h)) ∙ ap (λ (n : ℕ). lines_from 0 (take n l)) s
 
 module _ {m : Meaning} {roll stream : List ℕ} {n : ℕ} {before after : List ℕ} {u : Tables} where
   -- the front of the buffer is the answers
@@ -30,26 +31,10 @@ module _ {m : Meaning} {roll stream : List ℕ} {n : ℕ} {before after : List �
       let a = s.answered in
       ap (take n) a.written ∙ take_at a.answers (drop n before) n (a.run.as_many ∙ sym a.counted)
 
-  front_long : {end : Option CallFault} → Session m roll stream end n before after u → n ≡ length (take n after)
-  front_long s = s.answered.counted ∙ sym s.answered.run.as_many ∙ sym (ap length (front s))
-
   spoken : {end : Option CallFault} {lines last out : List ℕ} → Session m roll stream end n before after u → lines ≡ lines_from 0 (take n after) → last ≡ end_line end → out ≡ lines ++ last → Printed m roll stream out
   spoken {end} {lines} {last} s ls la o =
       let a = s.answered in
       taken s.start a.calls a.answers end s.taken a.streams a.run s.secure (o ∙ ap (λ (x : List ℕ). x ++ last) (ls ∙ ap (lines_from 0) (front s)) ∙ ap (λ (x : List ℕ). lines_from 0 a.answers ++ x) la)
-
--- as many answers as were counted stand in front
-pub ran_long : (m : Meaning) (roll stream : List ℕ) (n : ℕ) (end : End) (before after : List ℕ) (t u : Tables) → Ran m roll stream n end before after t u → n ≡ length (take n after)
-ran_long m roll stream n (Err NoRoom) before after t u (short, none, same, tables) = none ∙ ap (λ (k : ℕ). length (take k after)) (sym none)
-ran_long m roll stream n (Err (BadRoll f)) before after t u (wide, tells, none, same, blank) = none ∙ ap (λ (k : ℕ). length (take k after)) (sym none)
-ran_long m roll stream n (Err (BadCall f)) before after t u ran = front_long ran.1
-ran_long m roll stream n (Ok x) before after t u ran = front_long ran.1
-
-pub ran_within : (m : Meaning) (roll stream : List ℕ) (n : ℕ) (end : End) (before after : List ℕ) (t u : Tables) → Ran m roll stream n end before after t u → n ≤ length after
-ran_within m roll stream n end before after t u ran =
-    let e = ran_long m roll stream n end before after t u ran in
-    let f : length after ≡ length (take n after) + length (drop n after) = ap length (sym (take-append-drop n after)) ∙ length-append (take n after) (drop n after) in
-    omega arith
 
 -- the lines of the answers and the last line are what is printed, where the buffer had room
 pub printed : (m : Meaning) (roll stream : List ℕ) (n : ℕ) (end : End) (before after : List ℕ) (t u : Tables) (lines last out : List ℕ) → Ran m roll stream n end before after t u

@@ -11,8 +11,7 @@ pub(crate) fn answer_lines(heap: Global, answers: &[u8]) -> Result<String, Alloc
 {
     let mut out = String::new(heap);
     for (place, answer) in answers.iter().enumerate() {
-        let line = format!(in heap; "{place} {answer}\n")?;
-        out.push_str(line.as_str())?;
+        write!(out, "{place} {answer}\n")?;
     }
     Ok(out)
 }

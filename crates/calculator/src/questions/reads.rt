@@ -5,7 +5,7 @@ ghost use Rattle.notation.specs.Notation.{Names};
 ghost use Rattle.calculator.specs.Questions.{called_ask, word, Asked, Rest, Understood};
 ghost use Rattle.notation.specs.Texts.{left};
 
-use super::{Ask, Fault, Question};
+use super::{Ask, Fault, Query, Question};
 use notation::{SchemeName, UnknownScheme, Words, read_label};
 use std::str::{FromStr, Utf8Error};
 
@@ -57,15 +57,15 @@ fn read_rest(words: &mut Words, ask: Ask, scheme: SchemeName, a: u64) -> Result<
     ensures { (ws : List (List ℕ)) → left words.old ≡ drop 3 ws → Rest ws ask scheme a result }
 {
     // Kept: five questions, a closed set, of which two take a second label.
-    let question = match ask {
-        Ask::Label => Question::Label(scheme, a),
-        Ask::Flows => Question::Flows(scheme, a, read_second(words, scheme)?),
-        Ask::Holds => Question::Holds(scheme, a, read_second(words, scheme)?),
-        Ask::Number => Question::Number(scheme, a),
-        Ask::Parts => Question::Parts(scheme, a),
+    let query = match ask {
+        Ask::Label => Query::Label(a),
+        Ask::Flows => Query::Flows(a, read_second(words, scheme)?),
+        Ask::Holds => Query::Holds(a, read_second(words, scheme)?),
+        Ask::Number => Query::Number(a),
+        Ask::Parts => Query::Parts(a),
     };
     if words.at_end() {
-        Ok(question)
+        Ok(Question { scheme, query })
     } else {
         Err(Fault::Extra)
     }

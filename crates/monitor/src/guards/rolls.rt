@@ -4,7 +4,9 @@ ghost use Rattle.tables.specs.State.{blank};
 ghost use Rattle.saving.specs.Saves.{saved, Stored, Refused};
 ghost use Rattle.histories.specs.Kept.{Kept};
 ghost use Rattle.histories.specs.Promises.{AllSecure};
+ghost use Rattle.histories.specs.Faithful.{AllFaithful};
 ghost use Rattle.monitor.specs.Loads.{Tells, Loads, OneAnswer, Steady, Returns};
+ghost use Rattle.monitor.specs.Guards.{within};
 
 use super::Guard;
 use crate::faults::RollFault;
@@ -34,8 +36,8 @@ impl<S: Scheme> Guard<S> {
     pub fn new(scheme: S) -> Guard<S>
         ensures scheme { result.scheme ≡ scheme }
         ensures tables { result.tables ≡ blank }
-        ensures steady { Steady (S.Scheme.meaning result.scheme) result.tables }
-        ensures kept { Kept (S.Scheme.meaning result.scheme) result.tables }
+        ensures steady { within S.Scheme.meaning result Steady }
+        ensures kept { within S.Scheme.meaning result Kept }
     {
         Guard {
             scheme,
@@ -48,10 +50,11 @@ impl<S: Scheme> Guard<S> {
         ensures loads { Loads (S.Scheme.meaning self.old.scheme) bytes.now result self.new.tables }
         ensures one { OneAnswer (S.Scheme.meaning self.old.scheme) }
         ensures scheme { self.new.scheme ≡ self.old.scheme }
-        ensures steady { Steady (S.Scheme.meaning self.new.scheme) self.new.tables }
-        ensures kept { Kept (S.Scheme.meaning self.new.scheme) self.new.tables }
+        ensures steady { within S.Scheme.meaning self.new Steady }
+        ensures kept { within S.Scheme.meaning self.new Kept }
         ensures saved { OnOk result (saved self.new.tables ≡ bytes.now) }
-        ensures secure { OnOk result (AllSecure (S.Scheme.meaning self.new.scheme) self.new.tables) }
+        ensures secure { OnOk result (within S.Scheme.meaning self.new AllSecure) }
+        ensures faithful { OnOk result (within S.Scheme.meaning self.new AllFaithful) }
     {
         self.tables = Tables::blank();
         self.tables = load_tables(&self.scheme, bytes)?;
@@ -70,7 +73,7 @@ impl<S: Scheme> Guard<S> {
     pub fn save(&self, buf: &mut [u8]) -> Result<usize, NoRoom>
         ensures saves { MatchResult result (Stored (saved self.now.tables) buf.old buf.new) (λ _. Refused (saved self.now.tables) buf.old buf.new) }
         ensures blank { self.now.tables ≡ blank → IfOk result (λ n. n ≡ 0) }
-        ensures back { Steady (S.Scheme.meaning self.now.scheme) self.now.tables → Returns (S.Scheme.meaning self.now.scheme) self.now.tables buf.new result }
+        ensures back { within S.Scheme.meaning self.now Steady → within S.Scheme.meaning self.now Returns buf.new result }
     {
         save(&self.tables, buf)
     }

@@ -1,14 +1,20 @@
-use Rattle.std.proofs.Common.{ap, ◌∙◌, arith}
-use Rattle.std.proofs.lemmas.List.{take_all}
-use Rattle.records.specs.Rights.{marks_number}
-use Rattle.records.proofs.Masks.{marks_more}
+use Rattle.std.proofs.Common.{rules, tests, ◌∙◌}
+use Rattle.std.specs.List.{enumerate_from}
+use Rattle.std.proofs.lemmas.Iterator.{YieldsList-from_slice, YieldsList-from_map}
+use Rattle.std.proofs.lemmas.Iterator.Consumers.{YieldsList-at, YieldsList-from_enumerate, fits_by_from_yields_list, sum_by_from_yields_List}
+use Rattle.records.proofs.Masks.{mark, marks_sum}
 use Rattle.records.proofs.rights.marks_of.Goals as goal
 
-pub overflow_add-marks : goal.overflow_add-marks
-overflow_add-marks c = omega (arith, (marks_more c.args.rights.now c.loop-user.user _ _ c.told-rights c.loop-user-test.true c.loop-user.invariant c.from.ensures).0)
-
-pub loop-user-preserved : goal.loop-user-preserved
-loop-user-preserved c = (marks_more c.args.rights.now c.loop-user.user _ _ c.told-rights c.loop-user-test.true c.loop-user.invariant c.from.ensures).1
+pub sum-requires-clause-fits : goal.sum-requires-clause-fits
+sum-requires-clause-fits c =
+    let rights = c.args.rights.now in
+    fits_by_from_yields_list mark (enumerate_from 0 rights) c.map.result 65536
+    (YieldsList-from_map _ mark (YieldsList-at c.map.ensures.source (YieldsList-from_enumerate (YieldsList-at c.enumerate.ensures.source (YieldsList-from_slice rights (cc))) (cc))) c.map.ensures.closure (λ x r q k. search (rules, tests)))
+    (marks_sum rights c.told-rights).1
 
 pub returns : goal.returns
-returns c = c.loop-user.invariant ∙ ap marks_number (take_all c.loop-user.user c.args.rights.now (omega (arith, c.told-rights)))
+returns c =
+    let rights = c.args.rights.now in
+    sum_by_from_yields_List mark (enumerate_from 0 rights) c.map.result c.sum.result c.sum.ensures.ran
+    (YieldsList-from_map _ mark (YieldsList-at c.map.ensures.source (YieldsList-from_enumerate (YieldsList-at c.enumerate.ensures.source (YieldsList-from_slice rights (cc))) (cc))) c.map.ensures.closure (λ x r q k. search (rules, tests)))
+    ∙ (marks_sum rights c.told-rights).0

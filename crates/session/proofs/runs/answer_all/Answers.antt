@@ -1,7 +1,8 @@
-use Rattle.std.proofs.Common.{◌≡◌, ℕ, length, set, refl, ap, ◌∙◌, subst, arith, rules}
+use Rattle.std.proofs.Common.{◌≡◌, ℕ, length, set, sym, refl, ap, ◌∙◌, subst, arith, rules}
 use Rattle.byte_cursor.specs.Bytes.{left, Took}
 use Rattle.stream.specs.Forms.{InForm, encode}
 use Rattle.stream.specs.Faults.{Faulty}
+use Rattle.histories.specs.Kept.{Kept}
 use Rattle.monitor.specs.Decides.{Decided}
 use Rattle.session.proofs.Goings.{going_start, room, going_more, going_done, going_bad}
 use Rattle.session.proofs.runs.answer_all.Goals as goal
@@ -42,7 +43,7 @@ returns-in-Err g c =
     let t = c.in-Some.ensures.next in
     let a = c.loop-next.c in
     let w : Faulty a.place (left a) c.in-Err.fault = rw c.in-Err.is at t.1 in
-    record { ran = going_bad c.loop-next.invariant.0 c.in-Err.fault t.0 w; kept = c.loop-next.invariant.0.kept; scheme = c.loop-next.invariant.1 }
+    record { ran = going_bad c.loop-next.invariant.0 c.in-Err.fault t.0 w; kept = λ k. subst (λ s. Kept (g.S.Scheme.meaning s) c.loop-next.guard.tables) (sym c.loop-next.invariant.1) (c.loop-next.invariant.0.kept k); scheme = c.loop-next.invariant.1 }
 
 pub returns : goal.returns
-returns g c = record { ran = going_done c.loop-next.invariant.0 c.in_default.ensures.next.0; kept = c.loop-next.invariant.0.kept; scheme = c.loop-next.invariant.1 }
+returns g c = record { ran = going_done c.loop-next.invariant.0 c.in_default.ensures.next.0; kept = λ k. subst (λ s. Kept (g.S.Scheme.meaning s) c.loop-next.guard.tables) (sym c.loop-next.invariant.1) (c.loop-next.invariant.0.kept k); scheme = c.loop-next.invariant.1 }

@@ -1,21 +1,7 @@
 use Rattle.std.proofs.lemmas.Result.{IfOk-weaker}
 use Rattle.std.proofs.Common.{string_bytes}
-use Rattle.transcript.proofs.Written.{ran_long, ran_within, printed}
+use Rattle.transcript.proofs.Written.{printed}
 use Rattle.transcript.proofs.runs.tell.Goals as goal
-
-pub slice_bounds-answer_lines-end : goal.slice_bounds-answer_lines-end
-slice_bounds-answer_lines-end g c =
-    let m = g.S.Scheme.meaning c.args.guard.now.scheme in
-    let r = c.run-outcome.result in
-    let last = c.run-outcome.new in
-    ran_within m c.args.roll.now c.args.calls.now r.answered r.end c.args.answers.now last.answers c.args.guard.now.tables last.guard.tables c.run-outcome.ensures.ran
-
-pub slice_bounds-answer_lines-end-2 : goal.slice_bounds-answer_lines-end-2
-slice_bounds-answer_lines-end-2 g c =
-    let m = g.S.Scheme.meaning c.args.guard.now.scheme in
-    let r = c.run-outcome.result in
-    let last = c.run-outcome.new in
-    ran_long m c.args.roll.now c.args.calls.now r.answered r.end c.args.answers.now last.answers c.args.guard.now.tables last.guard.tables c.run-outcome.ensures.ran
 
 pub returns : goal.returns
 returns g c =

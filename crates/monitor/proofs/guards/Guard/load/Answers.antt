@@ -1,4 +1,5 @@
 use Rattle.std.proofs.Common.{refl}
+use Rattle.histories.proofs.Faith.{faithful}
 use Rattle.histories.proofs.Promised.{secure}
 use Rattle.histories.proofs.Steadiness.{said_loaded, steady_said}
 use Rattle.monitor.proofs.Answers.{one_answer, says_saved, blank_kept, steady_kept}
@@ -18,6 +19,7 @@ returns g c =
       kept = steady_said m bytes t told.0 told.1;
       saved = says_saved bytes t told.0;
       secure = secure m (g.met.S.Scheme.lawful c.args.self.now.scheme) t (said_loaded m bytes t told.0 told.1);
+      faithful = faithful m (g.met.S.Scheme.lawful c.args.self.now.scheme) t (said_loaded m bytes t told.0 told.1);
     }
 
 pub returns-in_err-self-clause-one : goal.returns-in_err-self-clause-one

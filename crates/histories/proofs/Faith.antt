@@ -1,0 +1,175 @@
+-- The words of the promises say no less than they should. Assumes nothing.
+use Rattle.std.proofs.Common.{◌≡◌, ℕ, zero, suc, ◌<◌, ◌≤◌, true, false, eqb, List, [], ◌∷◌, length, sym, refl, ap, ◌∙◌, subst, inl, inr, zero-le, not-suc-le-zero, arith}
+use Rattle.std.proofs.lemmas.Bool.{cases_eq, false≢true, eq-eqb}
+use Rattle.labels.specs.Meaning.{Meaning, Lawful}
+use Rattle.tables.specs.Sets.{has}
+use Rattle.tables.specs.declared.types.Tables.{Tables}
+use Rattle.tables.specs.State.{user, object, has_object}
+use Rattle.sound.specs.declared.clauses.Clause.TheVariants.{Tree}
+use Rattle.sound.specs.Sound.{Sound}
+use Rattle.calls.specs.declared.types.Call.{Call}
+use Rattle.calls.specs.declared.types.Call.TheVariants.{Enter, Launch, Leave, Read, Write, Create, Delete, Move, Raise, Mix, Unmix, Rights, Allow, Bar}
+use Rattle.calls.specs.Calls.{asks, AllFine, FineAt}
+use Rattle.histories.specs.Carries.{Sort, an_object, present, Goal, standing, made, Flow, flows, carries, Among, Ends}
+use Rattle.histories.specs.Runs.{call_at, Run, Party, Granted, Stands, Chain, first, onward, Unbarred, OnList, by_roll, by_allow}
+use Rattle.histories.specs.Faithful.{AllFlow, Uncarried, CarriesWhatItAsks, FlowsCarried, ChainsJoin, AllFaithful}
+use Rattle.histories.proofs.Wholes.{Loaded}
+use Rattle.histories.proofs.Outcome.{outcome}
+use Rattle.histories.proofs.Users.{list_stays, list_takes}
+use Rattle.histories.proofs.Chains.{by_step, granted_fine, granted_next, stood_before, whole_at, sized_at, stands_has}
+use Rattle.histories.proofs.Launches.{has_stands, entries}
+
+asked : (m : Meaning) (t : Tables) (c : Call) → FineAt 7 (asks m t c) → AllFlow m t (carries t c) × Uncarried m t c
+asked m t (Enter u n l) f = (tt, tt)
+asked m t (Launch s o n l) f = let g = f.1.1.1.1.1.1.1.1 in ((g.0 refl, (g.1.0 refl, tt)), tt)
+asked m t (Leave s) f = (tt, tt)
+asked m t (Read s o) f = ((f.1.1.1.0 refl, tt), tt)
+asked m t (Write s o) f = ((f.1.1.1.1.0 refl, tt), tt)
+asked m t (Create s p n k l) f = let g = f.1.1.1.1.1.1.1.1.1 in ((g.0 refl, (g.1.0 refl, tt)), tt)
+asked m t (Delete s o) f = let g = f.1.1.1 in ((g.0 refl, (g.1.0 refl, tt)), tt)
+asked m t (Move s o q) f = let g = f.1.1.1.1.1.1 in ((g.0 refl, (g.1.0 refl, (g.1.1.0 refl, (g.1.1.1.0 refl, tt)))), tt)
+asked m t (Raise s o l) f = let g = f.1.1.1.1 in ((g.0 refl, tt), g.1.0 refl)
+asked m t (Mix s o) f = ((f.1.1.1.1.0 refl, tt), tt)
+asked m t (Unmix s o) f = ((f.1.1.1.1.0 refl, tt), tt)
+asked m t (Rights s o u mask) f = ((f.1.1.1.1.1.0 refl, tt), tt)
+asked m t (Allow s u o) f = (tt, tt)
+asked m t (Bar s u o) f = (tt, tt)
+
+-- what is asked under another number than 7
+off : {P : Type 0} (w : ℕ) → eqb w 7 ≡ false → w ≡ 7 → P
+off w not e = absurd (false≢true (sym not ∙ eq-eqb w 7 e))
+
+answered : (m : Meaning) (t : Tables) (c : Call) → AllFlow m t (carries t c) → Uncarried m t c → FineAt 7 (asks m t c)
+answered m t (Enter u n l) a x = (off 1 refl, (off 1 refl, (off 2 refl, (off 3 refl, (off 8 refl, tt)))))
+answered m t (Launch s o n l) a x = (off 1 refl, (off 1 refl, (off 1 refl, (off 2 refl, (off 3 refl, (off 4 refl, (off 5 refl, (off 6 refl, ((λ _. a.0), ((λ _. a.1.0), (off 8 refl, tt)))))))))))
+answered m t (Leave s) a x = (off 1 refl, tt)
+answered m t (Read s o) a x = (off 1 refl, (off 1 refl, (off 5 refl, ((λ _. a.0), tt))))
+answered m t (Write s o) a x = (off 1 refl, (off 1 refl, (off 4 refl, (off 5 refl, ((λ _. a.0), tt)))))
+answered m t (Create s p n k l) a x = (off 1 refl, (off 1 refl, (off 1 refl, (off 2 refl, (off 3 refl, (off 4 refl, (off 4 refl, (off 5 refl, (off 6 refl, ((λ _. a.0), ((λ _. a.1.0), (off 9 refl, tt))))))))))))
+answered m t (Delete s o) a x = (off 1 refl, (off 1 refl, (off 5 refl, ((λ _. a.0), ((λ _. a.1.0), (off 10 refl, (off 10 refl, (off 10 refl, tt))))))))
+answered m t (Move s o q) a x = (off 1 refl, (off 1 refl, (off 1 refl, (off 4 refl, (off 5 refl, (off 5 refl, ((λ _. a.0), ((λ _. a.1.0), ((λ _. a.1.1.0), ((λ _. a.1.1.1.0), (off 9 refl, (off 9 refl, (off 9 refl, tt)))))))))))))
+answered m t (Raise s o l) a x = (off 1 refl, (off 1 refl, (off 3 refl, (off 5 refl, ((λ _. a.0), ((λ _. x), (off 9 refl, (off 9 refl, tt))))))))
+answered m t (Mix s o) a x = (off 1 refl, (off 1 refl, (off 4 refl, (off 5 refl, ((λ _. a.0), tt)))))
+answered m t (Unmix s o) a x = (off 1 refl, (off 1 refl, (off 4 refl, (off 5 refl, ((λ _. a.0), (off 9 refl, tt))))))
+answered m t (Rights s o u mask) a x = (off 1 refl, (off 1 refl, (off 1 refl, (off 4 refl, (off 5 refl, ((λ _. a.0), tt))))))
+answered m t (Allow s u o) a x = (off 1 refl, (off 1 refl, (off 1 refl, (off 4 refl, (off 6 refl, tt)))))
+answered m t (Bar s u o) a x = (off 1 refl, (off 1 refl, (off 1 refl, (off 4 refl, (off 6 refl, tt)))))
+
+pub carries_what_it_asks : CarriesWhatItAsks
+carries_what_it_asks m t c = (asked m t c, answered m t c)
+
+-- the party that a flow leaves is in the tables, and so is the one that it leads to, if it stands
+abbrev Ends_there : Tables → Flow → Type 0
+Ends_there t (flows s n (standing s' n')) = (present t s n ≡ true) × (present t s' n' ≡ true)
+Ends_there t (flows s n (made s' n' l)) = present t s n ≡ true
+
+abbrev All_there : Tables → List Flow → Type 0
+All_there t [] = Unit {0}
+All_there t (f ∷ rest) = Ends_there t f × All_there t rest
+
+among_there : (t : Tables) (rest : List Flow) (s : Sort) (n : ℕ) (g : Goal) → All_there t rest → Among rest s n g → Ends_there t (flows s n g)
+among_there t [] s n g all a = absurd a
+among_there t (flows s' n' g' ∷ rest) s n g all (inl e) = let same : flows s' n' g' ≡ flows s n g = cc (e.0, e.1, e.2) in subst (Ends_there t) same all.0
+among_there t (flows s' n' g' ∷ rest) s n g all (inr a) = among_there t rest s n g all.1 a
+
+module _ (m : Meaning) (t : Tables) (sound : Sound m t) where
+  -- the parent of an object is in the tables
+  parent_there : (o : ℕ) → has_object t o ≡ true → has_object t (object t o).parent ≡ true
+  parent_there o h = ((sound Tree).placed o h).parent.0
+
+  all_there : (c : Call) → AllFine (asks m t c) → All_there t (carries t c)
+  all_there (Enter u n l) f = tt
+  all_there (Launch s o n l) f = (f.0, (f.1.0, tt))
+  all_there (Leave s) f = tt
+  all_there (Read s o) f = ((f.1.0, f.0), tt)
+  all_there (Write s o) f = ((f.0, f.1.0), tt)
+  all_there (Create s p n k l) f = (f.0, ((f.0, f.1.0), tt))
+  all_there (Delete s o) f = ((f.0, f.1.0), ((f.0, parent_there o f.1.0), tt))
+  all_there (Move s o q) f = ((f.0, f.1.0), ((f.0, parent_there o f.1.0), ((f.0, f.1.1.0), ((parent_there o f.1.0, f.1.1.0), tt))))
+  all_there (Raise s o l) f = ((f.0, f.1.0), tt)
+  all_there (Mix s o) f = ((f.0, f.1.0), tt)
+  all_there (Unmix s o) f = ((f.0, f.1.0), tt)
+  all_there (Rights s o u mask) f = ((f.0, f.1.0), tt)
+  all_there (Allow s u o) f = tt
+  all_there (Bar s u o) f = tt
+
+module _ {m : Meaning} {roll : Tables} {calls : List Call} {answers : List ℕ} (r : Run m roll calls answers) (laws : Lawful m) (loaded : Loaded m roll) where
+  -- an entry that stands later stood before, from its beginning on
+  unbarred_before : (u n j i k : ℕ) → i ≤ k → Unbarred r u n j k → Unbarred r u n j i
+  unbarred_before u n j i k le free a x y = free a x (omega arith)
+
+  -- what ends no later standing party
+  unended : (k : ℕ) (p : Party) → p.since ≤ k → Stands r (suc k) p → Granted r k → Ends (call_at calls k) p.sort p.number → ⊥
+  unended k p le s g e = s.unended k le (omega arith) g e
+
+  -- an entry stays from one call to the next
+  kept_on : (k u n : ℕ) → k < length calls → has (user (r.tables k) u).allowed.0 n ≡ true → (Granted r k → Ends (call_at calls k) an_object n → ⊥)
+      → (Granted r k → (s : ℕ) → call_at calls k ≡ Bar s u n → ⊥) → has (user (r.tables (suc k)) u).allowed.0 n ≡ true
+  kept_on k u n lt h on unbar =
+      by_step r (λ t. has (user t u).allowed.0 n ≡ true) k lt (λ _. h) (λ g fine. list_stays m (r.tables k) (call_at calls k) fine u n h (on g) (unbar g))
+
+  roll_has : (k u n : ℕ) → k ≤ length calls → Stands r k (record { sort = an_object; number = n; since = 0 }) → has (user roll u).allowed.0 n ≡ true → Unbarred r u n 0 k
+      → has (user (r.tables k) u).allowed.0 n ≡ true
+  roll_has zero u n le s h free = subst (λ (t : Tables). has (user t u).allowed.0 n ≡ true) (sym r.starts) h
+  roll_has (suc k) u n le s h free =
+      kept_on k u n (omega arith) (roll_has k u n (omega arith) (stood_before r k (suc k) _ zero-le (omega arith) s) h (unbarred_before u n 0 k (suc k) (omega arith) free))
+      (unended k _ zero-le s) (λ g x e. free k zero-le (omega arith) g x e)
+
+  allow_has : (k u n b j x : ℕ) → k ≤ length calls → Stands r k (record { sort = an_object; number = n; since = b }) → j < k → Granted r j → call_at calls j ≡ Allow x u n → b ≤ j → Unbarred r u n (suc j) k
+      → has (user (r.tables k) u).allowed.0 n ≡ true
+  allow_has zero u n b j x le s lt g e since free = absurd (not-suc-le-zero lt)
+  allow_has (suc k) u n b j x le s lt g e since free = elim (cases_eq j k) [
+    | inl same ↦
+        let fine : AllFine (asks m (r.tables j) (Allow x u n)) = subst (λ (c : Call). AllFine (asks m (r.tables j) c)) e (granted_fine r j g) in
+        let here : has (user (outcome (r.tables j) (Allow x u n)) u).allowed.0 n ≡ true = list_takes m (r.tables j) (sized_at r laws loaded j (omega (arith, g.0))) x u n fine in
+        let next : r.tables (suc j) ≡ outcome (r.tables j) (Allow x u n) = granted_next r j g ∙ ap (outcome (r.tables j)) e in
+        subst (λ (i : ℕ). has (user (r.tables (suc i)) u).allowed.0 n ≡ true) same (subst (λ (t : Tables). has (user t u).allowed.0 n ≡ true) (sym next) here)
+    | inr less ↦
+        kept_on k u n (omega arith) (allow_has k u n b j x (omega arith) (stood_before r k (suc k) _ (omega arith) (omega arith) s) (omega arith) g e since (unbarred_before u n (suc j) k (suc k) (omega arith) free))
+        (unended k _ (omega arith) s) (λ h y f. free k (omega arith) (omega arith) h y f)
+  ]
+
+  listed_has : (k : ℕ) → k ≤ length calls → (u : ℕ) (p : Party) → p.sort ≡ an_object → OnList r k u p → has (user (r.tables k) u).allowed.0 p.number ≡ true
+  listed_has k le u p is (by_roll s b h free) = roll_has k u p.number le (rw (is, b) at s) h free
+  listed_has k le u p is (by_allow j x s lt g e since free) = allow_has k u p.number p.since j x le (rw is at s) lt g e since free
+
+  join : (p : Party) (i : ℕ) (q : Party) (j a : ℕ) {w : Party} {b : ℕ} → Chain r p i q j → j < a → Chain r q a w b → Chain r p i w b
+  join p i q j a front lt (first c) = onward front lt c
+  join p i q j a front lt (onward more up c) = onward (join p i q j a front lt more) up c
+
+  chains_join : ChainsJoin r
+  chains_join p q w i j a b front more lt = join p i q j a front lt more
+
+  flows_carried : FlowsCarried r
+  flows_carried k g s n (standing s' n') a =
+      let lt : k < length calls = g.0 in
+      let le : k ≤ length calls = omega arith in
+      let there = among_there (r.tables k) (carries (r.tables k) (call_at calls k)) s n (standing s' n') (all_there m (r.tables k) (whole_at r laws loaded k le).sound (call_at calls k) (granted_fine r k g)) a in
+      let from = has_stands r laws loaded k le s n there.0 in
+      let to = has_stands r laws loaded k le s' n' there.1 in (
+        record { sort = s; number = n; since = from.0 },
+        record { sort = s'; number = n'; since = to.0 },
+        refl,
+        refl,
+        (record { granted = g; goal = standing s' n'; stood = from.1; along = a; reached = (refl, refl, to.1) }, refl),
+      )
+  flows_carried k g s n (made s' n' l) a =
+      let lt : k < length calls = g.0 in
+      let le : k ≤ length calls = omega arith in
+      let there = among_there (r.tables k) (carries (r.tables k) (call_at calls k)) s n (made s' n' l) (all_there m (r.tables k) (whole_at r laws loaded k le).sound (call_at calls k) (granted_fine r k g)) a in
+      let from = has_stands r laws loaded k le s n there in (
+        record { sort = s; number = n; since = from.0 },
+        record { sort = s'; number = n'; since = suc k },
+        refl,
+        refl,
+        (record { granted = g; goal = made s' n' l; stood = from.1; along = a; reached = (refl, refl, refl) }, refl),
+      )
+
+-- every run from what a load leaves
+pub faithful : (m : Meaning) → Lawful m → (roll : Tables) → Loaded m roll → AllFaithful m roll
+faithful m laws roll loaded calls answers r = record {
+  parties = record { there = has_stands r laws loaded; only = λ k le p s. stands_has r laws loaded k p le s };
+  lists = record { there = entries r laws loaded; only = listed_has r laws loaded };
+  carried = flows_carried r laws loaded;
+  joined = chains_join r laws loaded;
+}
