@@ -3,7 +3,8 @@
 
 REPOSITORY is a checkout that was proved; it is copied for each worker and not changed. Each line of LIST (bugs.txt, of the code; or
 definitions.txt, of the definitions) is put into its file alone, and the crate is checked by `rt check`, and behind it the crates that the line names, up
-to the first that is refused. Printed: refused or STILL PROVED, the crate and file, the change, and the first line in which the prover objects.
+to the first that is refused. Each crate is checked first as it stands. Printed: refused or STILL PROVED, the crate and file, the change, and the first line in
+which the prover objects: that a fact fails, that a named step is gone, or that a text cannot be read, which is no refusal.
 """
 import os
 import re
@@ -43,6 +44,8 @@ def judge(repo, crate, file, old, new, behind):
     out = (done.stdout + done.stderr).replace(repo + '/', '')
     if done.returncode == 0:
         return 'STILL PROVED', ''
+    if not re.search(r'logic=not-proved|not proved|error: `', out):
+        return 'NOT JUDGED', (out.strip().splitlines() or ['nothing was said'])[-1][:240]
     where = '' if checked == crate else checked + ': '
     why = [where + l for l in out.splitlines() if re.search(r'error|not proved that|`search` found|not proved', l)]
     return 'refused', (why or ['?'])[0][:240]
@@ -57,6 +60,10 @@ def main():
         with tempfile.TemporaryDirectory(dir=os.path.dirname(os.path.abspath(source))) as folder:
             repo = os.path.join(folder, 'repo')
             shutil.copytree(source, repo, ignore=shutil.ignore_patterns('out', '.git'))
+            for crate in sorted({bug[0] for _, bug in list(work)}):
+                if subprocess.run(['rt', 'check'], cwd=os.path.join(repo, 'crates', crate), capture_output=True).returncode != 0:
+                    print(f'{crate} is not proved as it stands', flush=True)
+                    return
             while True:
                 with lock:
                     if not work:
@@ -76,7 +83,7 @@ def main():
     for _, (verdict, _) in results.values():
         count[verdict] = count.get(verdict, 0) + 1
     print(count)
-    return 1 if count.get('STILL PROVED') else 0
+    return 0 if count == {'refused': len(list(bugs(name)))} else 1
 
 
 if __name__ == '__main__':

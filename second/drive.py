@@ -7,9 +7,11 @@
 CRATES is the folder `crates` of a checkout in which the programs were built: each lies in its crate's out/. Rolls are mostly sound; some are damaged,
 and some break one clause of soundness. Calls follow the moving state, so that every answer comes up. Each case is run by `guard` or `old_guard`, and
 by `replay`, which also tells the clause that fails and the bytes that the guard saves in the end. It prints how often each answer, fault and clause
-came up, and ends with status 1 at the first difference, which it leaves in the folder `difference`.
+came up, and ends with status 1 at the first difference, which it leaves in the folder `difference`, or where of 5,000 cases and more one of them never
+came up.
 
-`store` runs no program: it writes cases into CRATES/replay/stdin, and what second.py says of them into CRATES/replay/stdout.
+`store` runs no program: it writes cases into CRATES/replay/stdin, and what second.py says of them into CRATES/replay/stdout. Those that are stored are
+the 1,200 of seed 20261127.
 """
 import collections
 import os
@@ -243,7 +245,9 @@ def case(rng):
 def replayed(folder, cases):
     """what the built `replay` says of cases, a line each"""
     done = subprocess.run([os.path.join(folder, 'replay', 'out', 'replay')], input=b''.join(stored(*c) for c in cases), capture_output=True, check=True)
-    return done.stdout.decode().split('\n')
+    lines = done.stdout.decode().split('\n')
+    assert lines.pop() == '' and len(lines) == len(cases), 'one line for each case'
+    return lines
 
 
 def compare(folder, count, seed):
@@ -251,7 +255,7 @@ def compare(folder, count, seed):
     with tempfile.TemporaryDirectory() as place:
         for first in range(0, count, 500):
             cases = [case(rng) for _ in range(min(500, count - first))]
-            for (program, roll, calls), line in zip(cases, replayed(folder, cases), strict=False):
+            for (program, roll, calls), line in zip(cases, replayed(folder, cases), strict=True):
                 kind = SCHEMES[program][0]
                 want = second.run(kind, roll, calls)
                 got = run_program(os.path.abspath(os.path.join(folder, program, 'out', program)), roll, calls, place)
@@ -266,7 +270,10 @@ def compare(folder, count, seed):
                     clauses['abcdefgh'[int(line.split()[3]) - 1]] += 1
     print(count, 'cases, no difference; answers:', ', '.join(f'{k}: {seen[k]}' for k in sorted(seen)))
     print('of 14, by clause:', ', '.join(f'{k}: {clauses[k]}' for k in sorted(clauses)))
-    return 0
+    missing = [str(k) for k in range(15) if not seen[k]] + [c for c in 'abcdefgh' if not clauses[c]]
+    if missing:
+        print('never came up:', ', '.join(missing))
+    return 1 if missing and count >= 5000 else 0
 
 
 def main():

@@ -31,6 +31,7 @@ fn user_of(t: &Tables, subject: u8) -> u8
 }
 
 /// Changes the tables as a granted call does.
+#[inline(always)]
 pub fn apply(t: &mut Tables, call: Call)
     ensures { t.new ≡ effect t.old call }
 {

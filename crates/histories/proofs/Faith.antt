@@ -1,6 +1,6 @@
 -- The words of the promises say no less than they should. Assumes nothing.
-use Rattle.std.proofs.Common.{◌≡◌, ℕ, zero, suc, ◌<◌, ◌≤◌, true, false, eqb, List, [], ◌∷◌, length, sym, refl, ap, ◌∙◌, subst, inl, inr, zero-le, not-suc-le-zero, arith}
-use Rattle.std.proofs.lemmas.Bool.{cases_eq, false≢true, eq-eqb}
+use Rattle.std.proofs.Common.{◌≡◌, ℕ, zero, suc, ◌<◌, ◌≤◌, true, false, eqb, List, [], ◌∷◌, length, sym, refl, ap, ◌∙◌, subst, subst₂, inl, inr, zero-le, not-suc-le-zero, arith}
+use Rattle.std.proofs.lemmas.Bool.{cases_eq, cases_order, false≢true, eq-eqb}
 use Rattle.labels.specs.Meaning.{Meaning, Lawful}
 use Rattle.tables.specs.Sets.{has}
 use Rattle.tables.specs.declared.types.Tables.{Tables}
@@ -10,14 +10,15 @@ use Rattle.sound.specs.Sound.{Sound}
 use Rattle.calls.specs.declared.types.Call.{Call}
 use Rattle.calls.specs.declared.types.Call.TheVariants.{Enter, Launch, Leave, Read, Write, Create, Delete, Move, Raise, Mix, Unmix, Rights, Allow, Bar}
 use Rattle.calls.specs.Calls.{asks, AllFine, FineAt}
-use Rattle.histories.specs.Carries.{Sort, an_object, present, Goal, standing, made, Flow, flows, carries, Among, Ends}
-use Rattle.histories.specs.Runs.{call_at, Run, Party, Granted, Stands, Chain, first, onward, Unbarred, OnList, by_roll, by_allow}
-use Rattle.histories.specs.Faithful.{AllFlow, Uncarried, CarriesWhatItAsks, FlowsCarried, ChainsJoin, AllFaithful}
+use Rattle.histories.specs.Carries.{Sort, an_object, present, Goal, standing, made, Flow, flows, carries, Among, Makes, Ends}
+use Rattle.histories.specs.Runs.{call_at, Run, Party, Granted, Begun, Stands, Chain, first, onward, Unbarred, OnList, by_roll, by_allow}
+use Rattle.histories.specs.Faithful.{AllFlow, Uncarried, CarriesWhatItAsks, AllCarried, FlowsCarried, ChainsJoin, AllFaithful}
 use Rattle.histories.proofs.Wholes.{Loaded}
 use Rattle.histories.proofs.Outcome.{outcome}
 use Rattle.histories.proofs.Users.{list_stays, list_takes}
 use Rattle.histories.proofs.Chains.{by_step, granted_fine, granted_next, stood_before, whole_at, sized_at, stands_has}
-use Rattle.histories.proofs.Launches.{has_stands, entries}
+use Rattle.histories.proofs.Launches.{has_stands, entries, stands_on}
+use Rattle.histories.proofs.Step.{came}
 
 asked : (m : Meaning) (t : Tables) (c : Call) → FineAt 7 (asks m t c) → AllFlow m t (carries t c) × Uncarried m t c
 asked m t (Enter u n l) f = (tt, tt)
@@ -58,32 +59,61 @@ answered m t (Bar s u o) a x = (off 1 refl, (off 1 refl, (off 1 refl, (off 4 ref
 pub carries_what_it_asks : CarriesWhatItAsks
 carries_what_it_asks m t c = (asked m t c, answered m t c)
 
--- the party that a flow leaves is in the tables, and so is the one that it leads to, if it stands
-abbrev Ends_there : Tables → Flow → Type 0
-Ends_there t (flows s n (standing s' n')) = (present t s n ≡ true) × (present t s' n' ≡ true)
-Ends_there t (flows s n (made s' n' l)) = present t s n ≡ true
+-- the party that a flow leaves is in the tables, and so is the one that it leads to, or the call makes it
+abbrev EndsThere : Tables → Call → Flow → Type 0
+EndsThere t c (flows s n (standing s' n')) = (present t s n ≡ true) × (present t s' n' ≡ true)
+EndsThere t c (flows s n (made s' n' l)) = (present t s n ≡ true) × Makes c s' n'
 
-abbrev All_there : Tables → List Flow → Type 0
-All_there t [] = Unit {0}
-All_there t (f ∷ rest) = Ends_there t f × All_there t rest
+abbrev AllThere : Tables → Call → List Flow → Type 0
+AllThere t c [] = Unit {0}
+AllThere t c (f ∷ rest) = EndsThere t c f × AllThere t c rest
 
-among_there : (t : Tables) (rest : List Flow) (s : Sort) (n : ℕ) (g : Goal) → All_there t rest → Among rest s n g → Ends_there t (flows s n g)
-among_there t [] s n g all a = absurd a
-among_there t (flows s' n' g' ∷ rest) s n g all (inl e) = let same : flows s' n' g' ≡ flows s n g = cc (e.0, e.1, e.2) in subst (Ends_there t) same all.0
-among_there t (flows s' n' g' ∷ rest) s n g all (inr a) = among_there t rest s n g all.1 a
+-- no call both makes a party and ends it
+not_both : (c : Call) (s : Sort) (n : ℕ) → Makes c s n → Ends c s n → ⊥
+not_both (Enter u n l) s x a b = b
+not_both (Launch s o n l) k x a b = b
+not_both (Leave s) k x a b = a
+not_both (Read s o) k x a b = b
+not_both (Write s o) k x a b = b
+not_both (Create s p n kind l) k x a b = b
+not_both (Delete s o) k x a b = a
+not_both (Move s o q) k x a b = b
+not_both (Raise s o l) k x a b = b
+not_both (Mix s o) k x a b = b
+not_both (Unmix s o) k x a b = b
+not_both (Rights s o u mask) k x a b = b
+not_both (Allow s u o) k x a b = b
+not_both (Bar s u o) k x a b = b
+
+-- a call makes a party of a number that is free
+makes_free : (m : Meaning) (t : Tables) (c : Call) (k : Sort) (x : ℕ) → AllFine (asks m t c) → Makes c k x → present t k x ≡ false
+makes_free m t (Enter u n l) k x f a = rw (a.0, a.1) f.1.1.0
+makes_free m t (Launch s o n l) k x f a = rw (a.0, a.1) f.1.1.1.0
+makes_free m t (Leave s) k x f a = absurd a
+makes_free m t (Read s o) k x f a = absurd a
+makes_free m t (Write s o) k x f a = absurd a
+makes_free m t (Create s p n kind l) k x f a = rw (a.0, a.1) f.1.1.1.0
+makes_free m t (Delete s o) k x f a = absurd a
+makes_free m t (Move s o q) k x f a = absurd a
+makes_free m t (Raise s o l) k x f a = absurd a
+makes_free m t (Mix s o) k x f a = absurd a
+makes_free m t (Unmix s o) k x f a = absurd a
+makes_free m t (Rights s o u mask) k x f a = absurd a
+makes_free m t (Allow s u o) k x f a = absurd a
+makes_free m t (Bar s u o) k x f a = absurd a
 
 module _ (m : Meaning) (t : Tables) (sound : Sound m t) where
   -- the parent of an object is in the tables
   parent_there : (o : ℕ) → has_object t o ≡ true → has_object t (object t o).parent ≡ true
   parent_there o h = ((sound Tree).placed o h).parent.0
 
-  all_there : (c : Call) → AllFine (asks m t c) → All_there t (carries t c)
+  all_there : (c : Call) → AllFine (asks m t c) → AllThere t c (carries t c)
   all_there (Enter u n l) f = tt
-  all_there (Launch s o n l) f = (f.0, (f.1.0, tt))
+  all_there (Launch s o n l) f = ((f.0, (refl, refl)), ((f.1.0, (refl, refl)), tt))
   all_there (Leave s) f = tt
   all_there (Read s o) f = ((f.1.0, f.0), tt)
   all_there (Write s o) f = ((f.0, f.1.0), tt)
-  all_there (Create s p n k l) f = (f.0, ((f.0, f.1.0), tt))
+  all_there (Create s p n k l) f = ((f.0, (refl, refl)), ((f.0, f.1.0), tt))
   all_there (Delete s o) f = ((f.0, f.1.0), ((f.0, parent_there o f.1.0), tt))
   all_there (Move s o q) f = ((f.0, f.1.0), ((f.0, parent_there o f.1.0), ((f.0, f.1.1.0), ((parent_there o f.1.0, f.1.1.0), tt))))
   all_there (Raise s o l) f = ((f.0, f.1.0), tt)
@@ -92,6 +122,9 @@ module _ (m : Meaning) (t : Tables) (sound : Sound m t) where
   all_there (Rights s o u mask) f = ((f.0, f.1.0), tt)
   all_there (Allow s u o) f = tt
   all_there (Bar s u o) f = tt
+
+not_le : (j k : ℕ) → suc k ≤ j → j < suc k → ⊥
+not_le j k a b = omega arith
 
 module _ {m : Meaning} {roll : Tables} {calls : List Call} {answers : List ℕ} (r : Run m roll calls answers) (laws : Lawful m) (loaded : Loaded m roll) where
   -- an entry that stands later stood before, from its beginning on
@@ -140,36 +173,93 @@ module _ {m : Meaning} {roll : Tables} {calls : List Call} {answers : List ℕ} 
   chains_join : ChainsJoin r
   chains_join p q w i j a b front more lt = join p i q j a front lt more
 
+  -- each of these flows of call k, which are among all that it carries
+  each : (k : ℕ) (g : Granted r k) (rest : List Flow) → ((s : Sort) (n : ℕ) (goal : Goal) → Among rest s n goal → Among (carries (r.tables k) (call_at calls k)) s n goal)
+      → AllThere (r.tables k) (call_at calls k) rest → AllCarried r k rest
+  each k g [] inc there = tt
+  each k g (flows s n (standing s' n') ∷ rest) inc there =
+      let lt : k < length calls = g.0 in
+      let le : k ≤ length calls = omega arith in
+      let from = has_stands r laws loaded k le s n there.0.0 in
+      let to = has_stands r laws loaded k le s' n' there.0.1 in
+      let p : Party = record { sort = s; number = n; since = from.0 } in
+      let q : Party = record { sort = s'; number = n'; since = to.0 } in (
+        (p, q, refl, refl, refl, refl, to.1, record { granted = g; goal = standing s' n'; stood = from.1; along = inc s n (standing s' n') (inl (refl, refl, refl)); reached = (refl, refl, to.1) }),
+        each k g rest (λ s n goal a. inc s n goal (inr a)) there.1,
+      )
+  each k g (flows s n (made s' n' l) ∷ rest) inc there =
+      let lt : k < length calls = g.0 in
+      let le : k ≤ length calls = omega arith in
+      let from = has_stands r laws loaded k le s n there.0.0 in
+      let p : Party = record { sort = s; number = n; since = from.0 } in
+      let q : Party = record { sort = s'; number = n'; since = suc k } in (
+        (
+          p,
+          q,
+          refl,
+          refl,
+          refl,
+          refl,
+          record { begun = (g, there.0.1); before = omega arith; unended = λ j a b. absurd (not_le j k a b) },
+          record { granted = g; goal = made s' n' l; stood = from.1; along = inc s n (made s' n' l) (inl (refl, refl, refl)); reached = (refl, refl, refl) },
+        ),
+        each k g rest (λ s n goal a. inc s n goal (inr a)) there.1,
+      )
+
   flows_carried : FlowsCarried r
-  flows_carried k g s n (standing s' n') a =
-      let lt : k < length calls = g.0 in
+  flows_carried k lt zero_answer =
+      let g : Granted r k = (lt, zero_answer) in
       let le : k ≤ length calls = omega arith in
-      let there = among_there (r.tables k) (carries (r.tables k) (call_at calls k)) s n (standing s' n') (all_there m (r.tables k) (whole_at r laws loaded k le).sound (call_at calls k) (granted_fine r k g)) a in
-      let from = has_stands r laws loaded k le s n there.0 in
-      let to = has_stands r laws loaded k le s' n' there.1 in (
-        record { sort = s; number = n; since = from.0 },
-        record { sort = s'; number = n'; since = to.0 },
-        refl,
-        refl,
-        (record { granted = g; goal = standing s' n'; stood = from.1; along = a; reached = (refl, refl, to.1) }, refl),
-      )
-  flows_carried k g s n (made s' n' l) a =
-      let lt : k < length calls = g.0 in
-      let le : k ≤ length calls = omega arith in
-      let there = among_there (r.tables k) (carries (r.tables k) (call_at calls k)) s n (made s' n' l) (all_there m (r.tables k) (whole_at r laws loaded k le).sound (call_at calls k) (granted_fine r k g)) a in
-      let from = has_stands r laws loaded k le s n there in (
-        record { sort = s; number = n; since = from.0 },
-        record { sort = s'; number = n'; since = suc k },
-        refl,
-        refl,
-        (record { granted = g; goal = made s' n' l; stood = from.1; along = a; reached = (refl, refl, refl) }, refl),
-      )
+      each k g (carries (r.tables k) (call_at calls k)) (λ s n goal a. a) (all_there m (r.tables k) (whole_at r laws loaded k le).sound (call_at calls k) (granted_fine r k g))
+
+  -- a party whose number is still there was not ended
+  stays : (k : ℕ) → k < length calls → (p : Party) → Stands r k p → present (r.tables (suc k)) p.sort p.number ≡ true → Stands r (suc k) p
+  stays k lt p s here = stands_on r k p s (λ g ends.
+      let there : present (outcome (r.tables k) (call_at calls k)) p.sort p.number ≡ true = subst (λ (t : Tables). present t p.sort p.number ≡ true) (granted_next r k g) here in
+      elim (came m laws (r.tables k) (call_at calls k) p.sort p.number (granted_fine r k g) there) [
+        | inl was ↦ was.1 ends
+        | inr new ↦ not_both (call_at calls k) p.sort p.number new ends
+      ])
+
+  -- a number is given to one party at a time: none is made while another stands
+  no_later : (k : ℕ) → k ≤ length calls → (p q : Party) → Stands r k p → Stands r k q → p.sort ≡ q.sort → p.number ≡ q.number → p.since < q.since → ⊥
+  no_later k le p q s t es en lt = go q.since lt t.before t.begun
+    where
+      go : (b : ℕ) → p.since < b → b ≤ k → Begun r q.sort q.number b → ⊥
+      go zero a h e = not-suc-le-zero a
+      go (suc j) a h e =
+          let before : Stands r j p = stood_before r j k p (omega arith) (omega arith) s in
+          let on : present (r.tables j) q.sort q.number ≡ true = subst₂ (λ (x : Sort) (y : ℕ). present (r.tables j) x y ≡ true) es en (stands_has r laws loaded j p (omega arith) before) in
+          false≢true (sym (makes_free m (r.tables j) (call_at calls j) q.sort q.number (granted_fine r j e.0) e.1) ∙ on)
+
+  alone : (k : ℕ) → k ≤ length calls → (p q : Party) → Stands r k p → Stands r k q → p.sort ≡ q.sort → p.number ≡ q.number → p.since ≡ q.since
+  alone k le p q s t es en = elim (cases_order p.since q.since) [
+    | inl e ↦ e
+    | inr o ↦ elim o [
+      | inl h ↦ absurd (no_later k le p q s t es en h)
+      | inr h ↦ absurd (no_later k le q p t s (sym es) (sym en) h)
+    ]
+  ]
+
+  -- what the list holds stands
+  on_list_stands : (k u : ℕ) (p : Party) → OnList r k u p → Stands r k p
+  on_list_stands k u p (by_roll s b h free) = s
+  on_list_stands k u p (by_allow j x s lt g e since free) = s
 
 -- every run from what a load leaves
 pub faithful : (m : Meaning) → Lawful m → (roll : Tables) → Loaded m roll → AllFaithful m roll
 faithful m laws roll loaded calls answers r = record {
-  parties = record { there = has_stands r laws loaded; only = λ k le p s. stands_has r laws loaded k p le s };
-  lists = record { there = entries r laws loaded; only = listed_has r laws loaded };
+  parties = record {
+    there = has_stands r laws loaded;
+    only = λ k le p s. stands_has r laws loaded k p le s;
+    alone = alone r laws loaded;
+    stays = stays r laws loaded;
+  };
+  lists = record {
+    there = λ k le u n h. let e = entries r laws loaded k le u n h in (e.0, e.1, e.2, on_list_stands r laws loaded k u e.0 e.3, e.3);
+    only = λ k le u p is on. (on_list_stands r laws loaded k u p on, listed_has r laws loaded k le u p is on);
+  };
   carried = flows_carried r laws loaded;
+  single = λ k p q c. first c;
   joined = chains_join r laws loaded;
 }

@@ -20,7 +20,7 @@ use Rattle.histories.proofs.Chains.{granted_fine, by_step}
 
 module _ {m : Meaning} {roll : Tables} {calls : List Call} {answers : List ℕ} (r : Run m roll calls answers) where
   -- a party stands on, if the call does not end it
-  stands_on : (k : ℕ) (p : Party) → Stands r k p → (Granted r k → Ends (call_at calls k) p.sort p.number → ⊥) → Stands r (suc k) p
+  pub stands_on : (k : ℕ) (p : Party) → Stands r k p → (Granted r k → Ends (call_at calls k) p.sort p.number → ⊥) → Stands r (suc k) p
   stands_on k p s on = record {
     begun = s.begun;
     before = let h : p.since ≤ k = s.before in omega arith;

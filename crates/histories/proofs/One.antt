@@ -13,7 +13,7 @@ module _ {m : Meaning} {roll : Tables} {calls : List Call} {xs ys : List ℕ} (r
   same_answer k h e =
       one_answer m (s.tables k) (call_at calls k) (answer_at xs k) (answer_at ys k) (subst (λ (t : Tables). Answer m t (call_at calls k) (answer_at xs k)) e (r.answered k h)) (s.answered k h)
 
-  same_tables : (k : ℕ) → k ≤ length calls → r.tables k ≡ s.tables k
+  pub same_tables : (k : ℕ) → k ≤ length calls → r.tables k ≡ s.tables k
   same_tables zero h = r.starts ∙ sym s.starts
   same_tables (suc k) h =
       let e = same_tables k (omega arith) in

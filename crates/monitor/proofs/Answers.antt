@@ -43,7 +43,7 @@ never : (bytes : List ℕ) (t : Tables) (f : RecordFault) → Says bytes (Ok t) 
 never bytes t f a b = let e = sure bytes (Ok t) (Err f) a b in let z : ◌≡◌ {A = ℕ} 0 1 = cc in omega arith
 
 -- what the bytes tell is one thing
-one_telling : (m : Meaning) (bytes : List ℕ) (r s : Result Tables RollFault) → Tells m bytes r → Tells m bytes s → r ≡ s
+pub one_telling : (m : Meaning) (bytes : List ℕ) (r s : Result Tables RollFault) → Tells m bytes r → Tells m bytes s → r ≡ s
 one_telling m bytes (Ok t) (Ok u) a b = ap (λ (x : Tables). Ok x) (says_ok bytes t u a.0 b.0)
 one_telling m bytes (Ok t) (Err (of_roll.Record f)) a b = absurd (never bytes t f a.0 b)
 one_telling m bytes (Ok t) (Err (of_roll.Unsound c n)) a b =

@@ -1,5 +1,5 @@
 -- Stored cases, and what is told of them. Assumes nothing.
-use Rattle.std.specs.Prelude.{◌≡◌, ℕ, List, [], ◌∷◌, ◌++◌, length, take, Ok, Err, codes, decimal, cond, ◌==◌}
+use Rattle.std.specs.Prelude.{◌≡◌, ℕ, ◌/◌, ◌<◌, ◌≤◌, ◌≢◌, List, [], ◌∷◌, ◌++◌, length, take, Ok, Err, codes, decimal, cond, ◌==◌}
 use Rattle.hex.specs.Hex.{encode_lower}
 use Rattle.labels.specs.Meaning.{Meaning}
 use Rattle.labels.specs.House.{house}
@@ -24,6 +24,10 @@ abbrev pub answers_text : List ℕ → List ℕ
 answers_text [] = []
 answers_text (a ∷ rest) = (decimal a ++ codes " ") ++ answers_text rest
 
+-- no case stands in front of these bytes
+abbrev pub NoCase : List ℕ → Type 0
+NoCase bytes = (label : ℕ) (roll calls rest : List ℕ) → length roll < 65536 → length calls < 65536 → bytes ≢ written label roll calls ++ rest
+
 -- a fault: a word, its number, and its byte place
 abbrev pub text_of_fault : List ℕ → ℕ → ℕ → List ℕ
 text_of_fault word number place = word ++ (codes " " ++ (decimal number ++ (codes " " ++ decimal place)))
@@ -36,13 +40,14 @@ end_text (Err (BadCall f)) = text_of_fault (codes "bad") (of_call.fault_number f
 end_text (Err (BadRoll (Record f))) = text_of_fault (codes "roll") (of_roll.fault_number (Record f)) (of_roll.fault_place (Record f))
 end_text (Err (BadRoll (Unsound c n))) = codes "roll 14 " ++ (decimal n ++ (codes " " ++ decimal (number c)))
 
--- The line of a case: the answers of its run on a guard that was blank, how it ends, and the bytes that the guard then saves.
+-- The line of a case: the answers of its run on a guard that was blank, with room for them, how it ends, and the bytes that the guard then saves.
 pub record Told (m : Meaning) (roll calls line : List ℕ) : Type 0 where
   pub answered : ℕ
   pub end : End
   pub before : List ℕ
   pub after : List ℕ
   pub last : Tables
+  pub room : length calls / 2 ≤ length before
   pub ran : Ran m roll calls answered end before after blank last
   pub line_is : line ≡ answers_text (take answered after) ++ (end_text end ++ (codes " " ++ (encode_lower (saved last) ++ codes "\n")))
 
@@ -54,4 +59,4 @@ label_of n = cond (n == 0) house old
 pub data Replayed : List ℕ → List ℕ → Type 0 where
   none : Replayed [] []
   one : (label : ℕ) (roll calls rest line lines : List ℕ) → Told (label_of label) roll calls line → Replayed rest lines → Replayed (written label roll calls ++ rest) (line ++ lines)
-  cut : (bytes : List ℕ) → Replayed bytes (codes "the cases are cut short\n")
+  cut : (bytes : List ℕ) → NoCase bytes → Replayed bytes (codes "the cases are cut short\n")

@@ -1,7 +1,7 @@
 //! A stored case.
-ghost use Rattle.std.specs.Prelude.{⊤, MatchResult};
-ghost use Rattle.byte_cursor.specs.Bytes.{Took};
-ghost use Rattle.replay.specs.Cases.{written};
+ghost use Rattle.std.specs.Prelude.{MatchResult};
+ghost use Rattle.byte_cursor.specs.Bytes.{left, Took};
+ghost use Rattle.replay.specs.Cases.{written, NoCase};
 
 use byte_cursor::{Cursor, CursorFault};
 
@@ -15,7 +15,7 @@ pub(crate) struct Case<'a> {
 
 /// The next case: its label, how long the roll and the stream are, and the two.
 pub(crate) fn next_case<'a>(c: &mut Cursor<'a>) -> Result<Case<'a>, CursorFault>
-    ensures { MatchResult result (λ x. Took c.old c.new (written x.label x.roll.now x.calls.now)) (λ e. ⊤) }
+    ensures { MatchResult result (λ x. Took c.old c.new (written x.label x.roll.now x.calls.now)) (λ e. NoCase (left c.old)) }
 {
     let label = c.number::<u8, 1>()?;
     let roll = c.number::<u16, 2>()?;

@@ -1,5 +1,5 @@
 //! Runs cases, and tells how each went.
-ghost use Rattle.std.specs.Prelude.{◌≡◌, IfOk, string_bytes};
+ghost use Rattle.std.specs.Prelude.{◌≡◌, ◌/◌, length, IfOk, string_bytes};
 ghost use Rattle.hex.specs.Hex.{encode_lower};
 ghost use Rattle.tables.specs.State.{blank};
 ghost use Rattle.saving.specs.Saves.{saved};
@@ -66,6 +66,7 @@ fn tell<S: Scheme>(
     case: Case,
     answers: &mut [u8],
 ) -> Result<String, AllocError>
+    requires { length answers.old ≡ length case.calls.now / 2 }
     ensures { guard.old.tables ≡ blank → IfOk result (λ s. Told (S.Scheme.meaning guard.old.scheme) case.entry.roll.now case.entry.calls.now (string_bytes s)) }
 {
     let outcome = run(guard, case.roll, case.calls, answers);

@@ -14,7 +14,7 @@ use Rattle.calls.specs.Refusals.{answer_number}
 use Rattle.histories.specs.Runs.{Run}
 use Rattle.histories.specs.Promises.{AllSecure}
 use Rattle.histories.specs.Kept.{Kept}
-use Rattle.histories.proofs.One.{one_run}
+use Rattle.histories.proofs.One.{one_run, same_tables}
 use Rattle.histories.proofs.Promised.{run_empty, run_snoc}
 use Rattle.stream.specs.declared.faults.CallFault.{CallFault}
 use Rattle.stream.specs.Forms.{encode, InForm}
@@ -22,10 +22,11 @@ use Rattle.stream.specs.Faults.{Faulty}
 use Rattle.stream.proofs.Steps.{Sofar, sofar_start, sofar_more, sofar_fault, sofar_done}
 use Rattle.monitor.specs.Decides.{Decided}
 use Rattle.monitor.specs.Loads.{Tells}
-use Rattle.monitor.proofs.Answers.{one_answer}
+use Rattle.monitor.proofs.Answers.{one_answer, one_telling}
+use Rattle.monitor.specs.declared.faults.RollFault.{RollFault}
 use Rattle.stream.proofs.Sure.{one_reading}
 use Rattle.session.specs.declared.outcomes.Stop.TheVariants.{BadCall, BadRoll, NoRoom}
-use Rattle.session.specs.Sessions.{End, Answered, Stretch, Ran, OneRun}
+use Rattle.session.specs.Sessions.{End, Answered, Session, Stretch, Ran, OneRun, OneOutcome}
 
 -- n calls were answered from the tables `start` on, which are now t; the cursor stands behind the calls, and the buffer holds their answers
 pub record Going (m : Meaning) (start : Tables) (stream : List ℕ) (c : Cursor) (n : ℕ) (before now : List ℕ) (t : Tables) : Type 0 where
@@ -146,3 +147,65 @@ stretch_fits m start stream n (Err NoRoom) before after last s = absurd s
 stretch_fits m start stream n (Err (BadRoll f)) before after last s = absurd s
 stretch_fits m start stream n (Err (BadCall f)) before after last s = answered_fits s
 stretch_fits m start stream n (Ok x) before after last s = answered_fits s
+
+-- what is refused is not taken
+refused_taken : (m : Meaning) (roll : List ℕ) (f : RollFault) (t : Tables) → Tells m roll (Err f) → Tells m roll (Ok t) → ⊥
+refused_taken m roll f t a b = let e = one_telling m roll (Err f) (Ok t) a b in let z : ◌≡◌ {A = ℕ} 0 1 = cc in omega arith
+
+-- two runs of the same calls from the same tables end in the same tables
+last_same : {m : Meaning} {t u : Tables} {xs ys : List Call} {p q : List ℕ} → t ≡ u → xs ≡ ys → (r : Run m t xs p) (s : Run m u ys q) → r.tables (length xs) ≡ s.tables (length ys)
+last_same {m} {t} {u} {xs} {ys} {p} {q} et ec =
+    subst (λ (v : Tables). (r : Run m t xs p) (s : Run m v ys q) → r.tables (length xs) ≡ s.tables (length ys)) et
+    (subst (λ (l : List Call). (r : Run m t xs p) (s : Run m t l q) → r.tables (length xs) ≡ s.tables (length l)) ec (λ r s. same_tables r s (length xs) (omega arith)))
+
+-- two sessions of one roll and stream have one outcome
+module _ {m : Meaning} {roll stream before : List ℕ} {n k : ℕ} {e f : Option CallFault} {after later : List ℕ} {u w : Tables} (a : Session m roll stream e n before after u) (b : Session m roll stream f k before later w) where
+  start_same : a.start ≡ b.start
+  start_same = (one_answer m roll (Ok tt) (Ok tt) a.start b.start a.taken b.taken).1
+
+  streams_same : (a.answered.calls ≡ b.answered.calls) × (e ≡ f)
+  streams_same = one_reading stream a.answered.calls b.answered.calls e f a.answered.streams b.answered.streams
+
+  -- the first run, as one of the second's calls from the second's tables on
+  moved : Run m b.start b.answered.calls a.answered.answers
+  moved = subst (λ (l : List Call). Run m b.start l a.answered.answers) streams_same.0 (subst (λ (t : Tables). Run m t a.answered.calls a.answered.answers) start_same a.answered.run)
+
+  answers_same : a.answered.answers ≡ b.answered.answers
+  answers_same = one_run moved b.answered.run
+
+  counts_same : n ≡ k
+  counts_same = a.answered.counted ∙ ap length streams_same.0 ∙ sym b.answered.counted
+
+  buffers_same : after ≡ later
+  buffers_same = a.answered.written ∙ ap (λ (l : List ℕ). l ++ drop n before) answers_same ∙ ap (λ (i : ℕ). b.answered.answers ++ drop i before) counts_same ∙ sym b.answered.written
+
+  tables_same : u ≡ w
+  tables_same = sym a.answered.ends ∙ last_same start_same streams_same.0 a.answered.run b.answered.run ∙ b.answered.ends
+
+  same_rest : (n ≡ k) × (after ≡ later) × (u ≡ w)
+  same_rest = (counts_same, buffers_same, tables_same)
+
+-- so a roll, a stream and a buffer have one outcome
+pub one_outcome : (m : Meaning) → OneOutcome m
+one_outcome m roll stream before t n k (Err NoRoom) (Err NoRoom) after later u w a b = (a.1 ∙ sym b.1, refl, a.2 ∙ sym b.2, a.3 ∙ sym b.3)
+one_outcome m roll stream before t n k (Err NoRoom) (Err (BadRoll g)) after later u w a b = absurd (let x = a.0 in let y = b.0 in omega (arith, x, y))
+one_outcome m roll stream before t n k (Err NoRoom) (Err (BadCall g)) after later u w a b = absurd (let x = a.0 in let y = b.0 in omega (arith, x, y))
+one_outcome m roll stream before t n k (Err NoRoom) (Ok z) after later u w a b = absurd (let x = a.0 in let y = b.0 in omega (arith, x, y))
+one_outcome m roll stream before t n k (Err (BadRoll f)) (Err NoRoom) after later u w a b = absurd (let x = a.0 in let y = b.0 in omega (arith, x, y))
+one_outcome m roll stream before t n k (Err (BadCall f)) (Err NoRoom) after later u w a b = absurd (let x = a.0 in let y = b.0 in omega (arith, x, y))
+one_outcome m roll stream before t n k (Ok z) (Err NoRoom) after later u w a b = absurd (let x = a.0 in let y = b.0 in omega (arith, x, y))
+one_outcome m roll stream before t n k (Err (BadRoll f)) (Err (BadRoll g)) after later u w a b =
+    let e = one_telling m roll (Err f) (Err g) a.1 b.1 in
+    let same : f ≡ g = cc in
+    (a.2 ∙ sym b.2, ap (λ (x : RollFault). Err (BadRoll x)) same, a.3 ∙ sym b.3, a.4 ∙ sym b.4)
+one_outcome m roll stream before t n k (Err (BadRoll f)) (Err (BadCall g)) after later u w a b = absurd (refused_taken m roll f b.1.start a.1 b.1.taken)
+one_outcome m roll stream before t n k (Err (BadRoll f)) (Ok z) after later u w a b = absurd (refused_taken m roll f b.1.start a.1 b.1.taken)
+one_outcome m roll stream before t n k (Err (BadCall g)) (Err (BadRoll f)) after later u w a b = absurd (refused_taken m roll f a.1.start b.1 a.1.taken)
+one_outcome m roll stream before t n k (Ok z) (Err (BadRoll f)) after later u w a b = absurd (refused_taken m roll f a.1.start b.1 a.1.taken)
+one_outcome m roll stream before t n k (Err (BadCall f)) (Err (BadCall g)) after later u w a b =
+    let e = (streams_same a.1 b.1).1 in
+    let same : f ≡ g = cc in
+    let r = same_rest a.1 b.1 in (r.0, ap (λ (x : CallFault). Err (BadCall x)) same, r.1, r.2)
+one_outcome m roll stream before t n k (Err (BadCall f)) (Ok z) after later u w a b = absurd (let e = (streams_same a.1 b.1).1 in let z : ◌≡◌ {A = ℕ} 0 1 = cc in omega arith)
+one_outcome m roll stream before t n k (Ok z) (Err (BadCall f)) after later u w a b = absurd (let e = (streams_same a.1 b.1).1 in let z : ◌≡◌ {A = ℕ} 0 1 = cc in omega arith)
+one_outcome m roll stream before t n k (Ok y) (Ok z) after later u w a b = let r = same_rest a.1 b.1 in (r.0, refl, r.1, r.2)

@@ -67,3 +67,8 @@ Stretch m start stream n (Ok x) before after u = Answered m start stream None n 
 abbrev pub OneRun : Meaning → Type 0
 OneRun m = (roll stream : List ℕ) (t u : Tables) (xs ys : List Call) (e f : Option CallFault) (p q : List ℕ) → Tells m roll (Ok t) → Tells m roll (Ok u)
     → Streams stream xs e → Streams stream ys f → Run m t xs p → Run m u ys q → (p ≡ q) × (e ≡ f)
+
+-- A roll, a stream and a buffer have one outcome: so many answers, one end, one buffer and one set of tables.
+abbrev pub OneOutcome : Meaning → Type 0
+OneOutcome m = (roll stream before : List ℕ) (t : Tables) (n k : ℕ) (e f : End) (after later : List ℕ) (u w : Tables)
+    → Ran m roll stream n e before after t u → Ran m roll stream k f before later t w → (n ≡ k) × (e ≡ f) × (after ≡ later) × (u ≡ w)

@@ -3,7 +3,7 @@ ghost use Rattle.std.specs.Prelude.{◌≡◌, ◌/◌, ◌≤◌, length};
 ghost use Rattle.calls.specs.Refusals.{answer_number};
 ghost use Rattle.histories.specs.Kept.{Kept};
 ghost use Rattle.monitor.specs.Guards.{within};
-ghost use Rattle.session.specs.Sessions.{Stretch, Ran, OneRun};
+ghost use Rattle.session.specs.Sessions.{Stretch, Ran, OneRun, OneOutcome};
 
 use crate::outcomes::{Outcome, Stop};
 use byte_cursor::Cursor;
@@ -63,6 +63,7 @@ pub fn run<S: Scheme>(
 ) -> Outcome
     ensures ran { Ran (S.Scheme.meaning guard.old.scheme) roll.now calls.now result.answered result.end answers.old answers.new guard.old.tables guard.new.tables }
     ensures one { OneRun (S.Scheme.meaning guard.old.scheme) }
+    ensures outcome { OneOutcome (S.Scheme.meaning guard.old.scheme) }
     ensures fits { result.answered ≤ length answers.new }
     ensures kept { within S.Scheme.meaning guard.old Kept → within S.Scheme.meaning guard.new Kept }
     ensures scheme { guard.new.scheme ≡ guard.old.scheme }

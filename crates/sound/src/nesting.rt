@@ -12,6 +12,7 @@ use tables::types::Kind;
 
 impl<S: Scheme> View<'_, S> {
     /// Does `a` hold label `l`, if it is an unmixed container?
+    #[inline(always)]
     fn held_at(&self, a: u8, l: u64) -> bool
         ensures { Decides result (Unmixed self.now.tables.now a → seen S.Scheme.meaning self.now Holds a l) }
     {

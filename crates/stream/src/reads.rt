@@ -23,6 +23,7 @@ struct Arguments {
 // Kept: one of three matches over the number that the format has for a call: they give its arguments, the call where none is a label, and
 // any call. An enum of the numbers would be one more list of the fourteen calls, beside `Call`, and leave the three matches.
 /// The map with the label's bit at bit 4, behind those of four bytes: `None` where no call has the number, or a bit stands for no argument.
+#[inline(always)]
 fn full_map(number: u8, bits: u8) -> Option<u8>
     ensures { MatchOption result (Known number bits → ⊥) (λ m. Known number bits × (m ≡ spread_map (kept number) bits)) }
 {
@@ -53,6 +54,7 @@ impl Arguments {
 
 impl Arguments {
     /// The arguments in a full map.
+    #[inline(always)]
     fn read(c: &mut Cursor, map: u8) -> Result<Arguments, CursorFault>
         ensures { MatchResult result (λ p. Reads map five (listed p) c.old c.new) (λ e. (e.first ≡ c.old.first) × (length (left c.old) < size_of map five)) }
     {
@@ -73,6 +75,7 @@ impl Arguments {
     /// The full map of the arguments that are not zero.
     // Kept: a sum of named bits, and no `map_of<const N: usize>([bool; N])` for this and the three maps of records: `read` asks for the
     // same bits by name, and an array would tell them by their place in it alone.
+    #[inline(always)]
     fn map(&self) -> u8
         ensures { result ≡ map_number (listed self.now) }
     {
@@ -85,6 +88,7 @@ impl Arguments {
 
     // Kept: as at `full_map`.
     /// The call with a known number and these arguments, none of which is a label.
+    #[inline(always)]
     fn byte_call(&self, number: u8) -> Call
         ensures { result ≡ byte_call_of number (listed self.now) }
     {
@@ -122,6 +126,7 @@ impl Arguments {
 
     // Kept: as at `full_map`.
     /// The call with a known number and these arguments.
+    #[inline(always)]
     fn call(&self, number: u8) -> Call
         ensures { result ≡ call_of number (listed self.now) }
     {
@@ -156,6 +161,7 @@ impl Arguments {
 }
 
 /// The next call.
+#[inline(always)]
 fn read_call(c: &mut Cursor) -> Result<Call, CallFault>
     ensures { MatchResult result (λ x. InForm x × Took c.old c.new (encode x)) (Faulty c.old.place (left c.old)) }
 {
@@ -172,6 +178,7 @@ fn read_call(c: &mut Cursor) -> Result<Call, CallFault>
 // Kept: a function over a lent cursor and no iterator: an iterator would have to say what it gives behind a call that cannot be read, and
 // the one caller stops there.
 /// The next call, or `None` at the end of the bytes. A call that was written is read back.
+#[inline(always)]
 pub fn next_call(c: &mut Cursor) -> Option<Result<Call, CallFault>>
     ensures next { MatchOption result ((left c.old ≡ []) × (c.new ≡ c.old)) (λ q. (0 < length (left c.old)) × MatchResult q (λ x. InForm x × Took c.old c.new (encode x)) (Faulty c.old.place (left c.old))) }
     ensures back { (x : Call) (rest : List ℕ) → InForm x → left c.old ≡ encode x ++ rest → result ≡ Some (Ok x) }

@@ -45,17 +45,6 @@ module _ {S A F : Type 0} {steps : S → Option A → S → Type 0} {v : A → �
       (λ all k. elim (cases_lt k n) [ inl h ↦ subst P (nth_number n k h) (all k 0 (omega arith) (omega arith)) | inr h ↦ past k h ])
       (λ some all. some.2 0 (all _))
 
-  -- has one of them P? None from n on has it
-  pub Decides-any_number : (xs : List A) × (o : Option A) × (j : F) × YieldsThen steps s xs o u × FoldsTo (λ p x q. Called g p (x, tt) false q) f xs j × MatchOption o (r ≡ false) (λ x. (r ≡ true) × ((h : F) × Called g j (x, tt) true h))
-      → YieldsList steps v s (range_with_len 0 n)
-      → ((x : A) (q : F) → Called g f (x, tt) true q → P (v x)) → ((x : A) (q : F) → Called g f (x, tt) false q → (q ≡ f) × (P (v x) → ⊥))
-      → ((k : ℕ) → n ≤ k → P k → ⊥) → Decides r ((k : ℕ) × P k)
-  Decides-any_number ran gives has_it has_not past =
-      let size : length (range_with_len 0 n) ≡ n = length-range_with_len 0 n in
-      decides r (cases_from_any u f r P (λ k. P k → ⊥) ran gives has_it has_not)
-      (λ some. (_, some.2 0))
-      (λ none some. elim (cases_lt some.0 n) [ inl h ↦ none some.0 0 (omega arith) (omega arith) (subst P (sym (nth_number n some.0 h)) some.1) | inr h ↦ past some.0 h some.1 ])
-
 -- `array.into_iter()` gives the array's items
 pub YieldsList-from_array : {A : Type 0} {n : ℕ} {s : _} (l : List A) → array_into_iter_items {X = A} {n = n} s ≡ l
     → YieldsList (λ s r t. MatchOption r ((length (array_into_iter_items {X = A} {n = n} s) ≡ 0) × (t ≡ s)) (λ x. array_into_iter_items s ≡ x ∷ array_into_iter_items t)) (λ x. x) s l

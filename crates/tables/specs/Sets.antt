@@ -1,5 +1,6 @@
 -- Sets of small numbers as the bits of a number. Assumes nothing.
-use Rattle.std.specs.Prelude.{ℕ, ◌/◌, ◌%◌, ◌^◌, Bool, cond, ◌==◌, bit_or, bit_xor, nat_lt}
+use Rattle.std.specs.Prelude.{◌≡◌, ℕ, true, ◌-◌, ◌<◌, not, ◌&&◌, ◌/◌, ◌%◌, ◌^◌, Bool, cond, ◌==◌, bit_or, bit_xor, nat_lt}
+use Rattle.std.specs.Int.{trailing_zeros, w16}
 use Rattle.tables.specs.declared.sets.Right.{Right}
 use Rattle.tables.specs.declared.sets.Right.TheVariants.{Read, Write, Create, Delete, ChangeRights, Execute, WriteAttributes}
 
@@ -18,6 +19,16 @@ without_element n k = cond (has n k) (bit_xor n (2 ^ k)) n
 -- a set of objects with k: a number past the objects changes nothing
 abbrev pub inserted : ℕ → ℕ → ℕ
 inserted n k = cond (nat_lt k 64) (with_element n k) n
+
+-- how many of 16 numbers stand from the lowest of the set on
+abbrev pub reach : ℕ → ℕ
+reach n = 16 - trailing_zeros w16 n
+
+-- g was taken out of the set n, and the set m of the others is left, which begins later
+pub record Taken (n m g : ℕ) : Type 0 where
+  pub member : has n g ≡ true
+  pub left : (j : ℕ) → has m j ≡ (not (j == g) && has n j)
+  pub later : reach m < reach n
 
 -- the place of a right in a set of rights
 abbrev pub bit_of : Right → ℕ

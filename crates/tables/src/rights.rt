@@ -19,11 +19,14 @@ fn entry_of(rights: &[Rights], user: u8) -> Rights
 fn shares(roles: &[Option<Rights>; GROUPS], mine: GroupSet, its: GroupSet, right: Right) -> bool
     ensures { Decides result (Shared roles.now mine.0 its.0 right) }
 {
-    (0..GROUPS as u8).any(|g| {
-        mine.contains(g)
-            && its.contains(g)
-            && slot(roles, g).is_some_and(|role| role.contains(right))
-    })
+    let mut both = mine.meet(its);
+    // Kept: a loop over the members; a chain over all sixteen numbers was tried, and misses the bar of speed where groups are shared.
+    while let Some(g) = both.take_lowest() {
+        if slot(roles, g).is_some_and(|role| role.contains(right)) {
+            return true;
+        }
+    }
+    false
 }
 
 impl Tables {
@@ -49,6 +52,7 @@ impl Tables {
     }
 
     /// Has `user` the right on `object`: as its owner, as an administrator, in the object's set for it, or through a group of both?
+    #[inline(always)]
     pub fn has_right(&self, user: u8, object: &Object, right: Right) -> bool
         ensures { Decides result (HasRight self.now user object.now right) }
     {

@@ -1,6 +1,6 @@
 //! Rights, and sets of rights, of groups and of objects: a bit for each member.
-ghost use Rattle.std.specs.Prelude.{◌≡◌, ℕ, ◌<◌, true, not, ◌&&◌, ◌||◌, ◌==◌};
-ghost use Rattle.tables.specs.Sets.{has, bit_of, inserted, without_element};
+ghost use Rattle.std.specs.Prelude.{◌≡◌, ℕ, ◌<◌, true, not, ◌&&◌, ◌||◌, ◌==◌, bit_and, MatchOption};
+ghost use Rattle.tables.specs.Sets.{has, bit_of, inserted, without_element, Taken};
 
 /// What a user may do to an object.
 #[derive(Clone, Copy, PartialEq, Eq)]
@@ -58,6 +58,26 @@ impl Rights {
 
 // Kept: as above.
 impl GroupSet {
+    /// The groups that are in both sets.
+    pub fn meet(self, other: GroupSet) -> GroupSet
+        ensures value { result.0 ≡ bit_and self.0 other.0 }
+        ensures members { (j : ℕ) → has result.0 j ≡ (has self.0 j && has other.0 j) }
+    {
+        GroupSet(self.0 & other.0)
+    }
+
+    /// Takes the lowest group out of this set: `None` where the set is empty.
+    pub(crate) fn take_lowest(&mut self) -> Option<u8>
+        ensures { MatchOption result (self.old.0 ≡ 0) (Taken self.old.0 self.new.0) }
+    {
+        if self.0 == 0 {
+            return None;
+        }
+        let g = self.0.trailing_zeros() as u8;
+        self.0 &= self.0 - 1;
+        Some(g)
+    }
+
     /// Is group `g` in this set? A number past the groups is in none.
     pub fn contains(self, g: u8) -> bool
         ensures { result ≡ has self.0 g }

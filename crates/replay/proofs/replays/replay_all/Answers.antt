@@ -6,7 +6,7 @@ use Rattle.replay.proofs.Telling.{further}
 use Rattle.replay.proofs.replays.replay_all.Goals as goal
 
 pub returns-in_default : goal.returns-in_default
-returns-in_default c = subst (Replayed c.args.cases.now) (sym c.in_ok-push_str.ensures.bytes) (c.loop-c.invariant _ (cut _))
+returns-in_default c = subst (Replayed c.args.cases.now) (sym c.in_ok-push_str.ensures.bytes) (c.loop-c.invariant _ (cut _ c.in_default.ensures))
 
 pub loop-c-preserved : goal.loop-c-preserved
 loop-c-preserved c = λ more r.

@@ -1,4 +1,4 @@
-use Rattle.std.proofs.Common.{sym}
+use Rattle.std.proofs.Common.{sym, arith}
 use Rattle.std.proofs.lemmas.Result.{IfOk-weaker}
 use Rattle.saving.specs.Saves.{saved}
 use Rattle.replay.proofs.Telling.{line_of}
@@ -12,6 +12,7 @@ returns g c = λ blank.
       answered = c.run-outcome.result.answered;
       end = c.run-outcome.result.end;
       before = c.args.answers.now;
+      room = omega (arith, c.requires);
       after = c.run-outcome.new.answers;
       last = t;
       ran = rw (sym blank) c.run-outcome.ensures.ran;

@@ -1,24 +1,23 @@
-use Rattle.std.proofs.Common.{◌≡◌, true, get_or, None, Option, unwrap_or, ap, ◌∙◌, sym, arith, rules}
+use Rattle.std.proofs.Common.{◌≡◌, ℕ, not, ◌&&◌, eqb, sym, ap, ◌∙◌, subst, inl, inr, rules}
 use borrow.Author.Tests.{tests}
-use lib.ListN.{get_or-eq_default}
-use Rattle.std.proofs.lemmas.Bool.{false≢true}
-use Rattle.std.proofs.lemmas.Bool.Decides.{Decides-like}
-use Rattle.tables.specs.declared.sets.Rights.{Rights}
-use Rattle.tables.specs.Rights.{Gives}
-use Rattle.tables.specs.Sets.{has, bit_of}
-use Rattle.tables.specs.State.{no_rights}
-use Rattle.tables.proofs.Bitwise.{has_none}
-use Rattle.tables.proofs.Chains.{Decides-any_number, YieldsList-below}
+use Rattle.std.proofs.lemmas.Bool.{and_parts, and_from, cases_eq, ne_eqb}
+use Rattle.tables.specs.Sets.{has}
+use Rattle.tables.proofs.rights.shares.Invariants.{RoleGives}
 use Rattle.tables.proofs.rights.shares.Goals as goal
 
-pub returns : goal.returns
-returns c =
-    let roles = c.args.roles.now in
-    let right = c.args.right in
-    Decides-like _ (λ s. (s.0, s.1.0, s.1.1, s.1.2)) (λ s. (s.0, (s.1, s.2, s.3)))
-    (Decides-any_number _ _ 16 _ (λ g. (has c.args.mine.0 g ≡ true) × (has c.args.its.0 g ≡ true) × Gives (unwrap_or (get_or roles g None) no_rights) right)
-    c.any.ensures.ran (YieldsList-below 16 cc)
-    (λ x q k. search (rules, tests)) (λ x q k. search (rules, tests))
-    (λ k far some.
-    let off : get_or roles k None ≡ None = get_or-eq_default roles None (omega arith) in
-    false≢true (sym (ap (λ (v : Option Rights). has (unwrap_or v no_rights).0 (bit_of right)) off ∙ has_none (bit_of right)) ∙ some.2)))
+pub loop-g-preserved : goal.loop-g-preserved
+loop-g-preserved c =
+    let g = c.in-Some.g in
+    let before = c.loop-g.both.0 in
+    let t = c.in-Some.ensures in
+    let left : (j : ℕ) → has c.take_lowest.new.self.0 j ≡ (not (eqb j g) && has before j) = t.left in
+    let gives_not : RoleGives c.args.roles.now c.args.right g → ⊥ = search (rules, tests) in (
+      λ j h. c.loop-g.invariant.0 j (and_parts (not (eqb j g)) (has before j) (sym (left j) ∙ h)).1,
+      λ j a b. elim (c.loop-g.invariant.1 j a b) [
+        | inl on ↦ elim (cases_eq j g) [
+          | inl same ↦ inr (λ gives. gives_not (subst (RoleGives c.args.roles.now c.args.right) same gives))
+          | inr other ↦ inl (left j ∙ and_from (not (eqb j g)) (has before j) (ap not (ne_eqb j g other)) on)
+        ]
+        | inr off ↦ inr off
+      ],
+    )
