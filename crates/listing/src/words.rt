@@ -32,7 +32,8 @@ pub(crate) fn fault_word(fault: &RollFault) -> &'static str
     }
 }
 
-// Kept: as above.
+// Kept: the type is another crate's, so it cannot be given a Display here, and these are this report's words; a wrapper round it is longer than the
+// function.
 /// The letter of a clause.
 pub(crate) fn clause_letter(clause: Clause) -> &'static str
     ensures { result.now ≡ letter_of_clause clause }
