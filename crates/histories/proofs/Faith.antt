@@ -1,6 +1,6 @@
 -- The words of the promises say no less than they should. Assumes nothing.
-use Rattle.std.proofs.Common.{◌≡◌, ℕ, zero, suc, ◌<◌, ◌≤◌, true, false, eqb, List, [], ◌∷◌, length, sym, refl, ap, ◌∙◌, subst, subst₂, inl, inr, zero-le, not-suc-le-zero, arith}
-use Rattle.std.proofs.lemmas.Bool.{cases_eq, cases_order, false≢true, eq-eqb}
+use Rattle.std.proofs.Common.{◌≡◌, ℕ, zero, suc, ◌<◌, ◌≤◌, true, false, List, [], ◌∷◌, length, sym, refl, ap, ◌∙◌, subst, subst₂, inl, inr, zero-le, not-suc-le-zero, arith}
+use Rattle.std.proofs.lemmas.Bool.{cases_eq, cases_order, false≢true}
 use Rattle.labels.specs.Meaning.{Meaning, Lawful}
 use Rattle.tables.specs.Sets.{has}
 use Rattle.tables.specs.declared.types.Tables.{Tables}
@@ -9,55 +9,16 @@ use Rattle.sound.specs.declared.clauses.Clause.TheVariants.{Tree}
 use Rattle.sound.specs.Sound.{Sound}
 use Rattle.calls.specs.declared.types.Call.{Call}
 use Rattle.calls.specs.declared.types.Call.TheVariants.{Enter, Launch, Leave, Read, Write, Create, Delete, Move, Raise, Mix, Unmix, Rights, Allow, Bar}
-use Rattle.calls.specs.Calls.{asks, AllFine, FineAt}
+use Rattle.calls.specs.Calls.{asks, AllFine}
 use Rattle.histories.specs.Carries.{Sort, an_object, present, Goal, standing, made, Flow, flows, carries, Among, Makes, Ends}
 use Rattle.histories.specs.Runs.{call_at, Run, Party, Granted, Begun, Stands, Chain, first, onward, Unbarred, OnList, by_roll, by_allow}
-use Rattle.histories.specs.Faithful.{AllFlow, Uncarried, CarriesWhatItAsks, AllCarried, FlowsCarried, ChainsJoin, AllFaithful}
+use Rattle.histories.specs.Faithful.{AllCarried, FlowsCarried, ChainsJoin, AllFaithful}
 use Rattle.histories.proofs.Wholes.{Loaded}
 use Rattle.histories.proofs.Outcome.{outcome}
 use Rattle.histories.proofs.Users.{list_stays, list_takes}
 use Rattle.histories.proofs.Chains.{by_step, granted_fine, granted_next, stood_before, whole_at, sized_at, stands_has}
 use Rattle.histories.proofs.Launches.{has_stands, entries, stands_on}
 use Rattle.histories.proofs.Step.{came}
-
-asked : (m : Meaning) (t : Tables) (c : Call) → FineAt 7 (asks m t c) → AllFlow m t (carries t c) × Uncarried m t c
-asked m t (Enter u n l) f = (tt, tt)
-asked m t (Launch s o n l) f = let g = f.1.1.1.1.1.1.1.1 in ((g.0 refl, (g.1.0 refl, tt)), tt)
-asked m t (Leave s) f = (tt, tt)
-asked m t (Read s o) f = ((f.1.1.1.0 refl, tt), tt)
-asked m t (Write s o) f = ((f.1.1.1.1.0 refl, tt), tt)
-asked m t (Create s p n k l) f = let g = f.1.1.1.1.1.1.1.1.1 in ((g.0 refl, (g.1.0 refl, tt)), tt)
-asked m t (Delete s o) f = let g = f.1.1.1 in ((g.0 refl, (g.1.0 refl, tt)), tt)
-asked m t (Move s o q) f = let g = f.1.1.1.1.1.1 in ((g.0 refl, (g.1.0 refl, (g.1.1.0 refl, (g.1.1.1.0 refl, tt)))), tt)
-asked m t (Raise s o l) f = let g = f.1.1.1.1 in ((g.0 refl, tt), g.1.0 refl)
-asked m t (Mix s o) f = ((f.1.1.1.1.0 refl, tt), tt)
-asked m t (Unmix s o) f = ((f.1.1.1.1.0 refl, tt), tt)
-asked m t (Rights s o u mask) f = ((f.1.1.1.1.1.0 refl, tt), tt)
-asked m t (Allow s u o) f = (tt, tt)
-asked m t (Bar s u o) f = (tt, tt)
-
--- what is asked under another number than 7
-off : {P : Type 0} (w : ℕ) → eqb w 7 ≡ false → w ≡ 7 → P
-off w not e = absurd (false≢true (sym not ∙ eq-eqb w 7 e))
-
-answered : (m : Meaning) (t : Tables) (c : Call) → AllFlow m t (carries t c) → Uncarried m t c → FineAt 7 (asks m t c)
-answered m t (Enter u n l) a x = (off 1 refl, (off 1 refl, (off 2 refl, (off 3 refl, (off 8 refl, tt)))))
-answered m t (Launch s o n l) a x = (off 1 refl, (off 1 refl, (off 1 refl, (off 2 refl, (off 3 refl, (off 4 refl, (off 5 refl, (off 6 refl, ((λ _. a.0), ((λ _. a.1.0), (off 8 refl, tt)))))))))))
-answered m t (Leave s) a x = (off 1 refl, tt)
-answered m t (Read s o) a x = (off 1 refl, (off 1 refl, (off 5 refl, ((λ _. a.0), tt))))
-answered m t (Write s o) a x = (off 1 refl, (off 1 refl, (off 4 refl, (off 5 refl, ((λ _. a.0), tt)))))
-answered m t (Create s p n k l) a x = (off 1 refl, (off 1 refl, (off 1 refl, (off 2 refl, (off 3 refl, (off 4 refl, (off 4 refl, (off 5 refl, (off 6 refl, ((λ _. a.0), ((λ _. a.1.0), (off 9 refl, tt))))))))))))
-answered m t (Delete s o) a x = (off 1 refl, (off 1 refl, (off 5 refl, ((λ _. a.0), ((λ _. a.1.0), (off 10 refl, (off 10 refl, (off 10 refl, tt))))))))
-answered m t (Move s o q) a x = (off 1 refl, (off 1 refl, (off 1 refl, (off 4 refl, (off 5 refl, (off 5 refl, ((λ _. a.0), ((λ _. a.1.0), ((λ _. a.1.1.0), ((λ _. a.1.1.1.0), (off 9 refl, (off 9 refl, (off 9 refl, tt)))))))))))))
-answered m t (Raise s o l) a x = (off 1 refl, (off 1 refl, (off 3 refl, (off 5 refl, ((λ _. a.0), ((λ _. x), (off 9 refl, (off 9 refl, tt))))))))
-answered m t (Mix s o) a x = (off 1 refl, (off 1 refl, (off 4 refl, (off 5 refl, ((λ _. a.0), tt)))))
-answered m t (Unmix s o) a x = (off 1 refl, (off 1 refl, (off 4 refl, (off 5 refl, ((λ _. a.0), (off 9 refl, tt))))))
-answered m t (Rights s o u mask) a x = (off 1 refl, (off 1 refl, (off 1 refl, (off 4 refl, (off 5 refl, ((λ _. a.0), tt))))))
-answered m t (Allow s u o) a x = (off 1 refl, (off 1 refl, (off 1 refl, (off 4 refl, (off 6 refl, tt)))))
-answered m t (Bar s u o) a x = (off 1 refl, (off 1 refl, (off 1 refl, (off 4 refl, (off 6 refl, tt)))))
-
-pub carries_what_it_asks : CarriesWhatItAsks
-carries_what_it_asks m t c = (asked m t c, answered m t c)
 
 -- the party that a flow leaves is in the tables, and so is the one that it leads to, or the call makes it
 abbrev EndsThere : Tables → Call → Flow → Type 0

@@ -1,6 +1,7 @@
 mod Wholes
 mod Nest
 mod Outcome
+pub mod Asked
 mod Step
 mod Users
 mod Keeps

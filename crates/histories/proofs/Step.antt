@@ -18,16 +18,13 @@ use Rattle.calls.specs.declared.types.Call.TheVariants.{Enter, Launch, Leave, Re
 use Rattle.calls.specs.Calls.{asks, AllFine}
 use Rattle.calls.specs.Effects.{created}
 use Rattle.histories.specs.Carries.{Sort, a_subject, an_object, present, label_of, Goal, standing, made, Flow, flows, carries, Among, Makes, Ends}
+use Rattle.histories.specs.Faithful.{goal_label, AllFlow}
+use Rattle.histories.proofs.Asked.{all_flow}
 use Rattle.histories.proofs.Outcome.{outcome}
 
 -- an object is no subject
 pub no_object : an_object ≡ a_subject → ⊥
 no_object e = let z : ◌≡◌ {A = ℕ} 0 1 = cc in omega arith
-
--- the label of a flow's goal
-abbrev goal_label : Tables → Goal → ℕ
-goal_label t (standing k n) = label_of t k n
-goal_label t (made k n l) = l
 
 -- all labels in the tables are labels
 abbrev pub LabelsStand : Meaning → Tables → Type 0
@@ -35,33 +32,13 @@ LabelsStand m t = (k : Sort) (n : ℕ) → present t k n ≡ true → m.label (l
 
 module _ (m : Meaning) (laws : Lawful m) (t : Tables) where
   -- each flow that a granted call carries along holds
-  abbrev AllFlow : List Flow → Type 0
-  AllFlow [] = Unit {0}
-  AllFlow (flows k n g ∷ rest) = (m.flow (label_of t k n) (goal_label t g) ≡ true) × AllFlow rest
-
-  all_flow : (c : Call) → AllFine (asks m t c) → AllFlow (carries t c)
-  all_flow (Enter u n l) fine = tt
-  all_flow (Launch s o n l) fine = let seven = fine.1.1.1.1.1.1.1.1 in (seven.0, (seven.1.0, tt))
-  all_flow (Leave s) fine = tt
-  all_flow (Read s o) fine = (fine.1.1.1.0, tt)
-  all_flow (Write s o) fine = (fine.1.1.1.1.0, tt)
-  all_flow (Create s p n kind l) fine = let seven = fine.1.1.1.1.1.1.1.1.1 in (seven.0, (seven.1.0, tt))
-  all_flow (Delete s o) fine = let seven = fine.1.1.1 in (seven.0, (seven.1.0, tt))
-  all_flow (Move s o q) fine = let seven = fine.1.1.1.1.1.1 in (seven.0, (seven.1.0, (seven.1.1.0, (seven.1.1.1.0, tt))))
-  all_flow (Raise s o l) fine = (fine.1.1.1.1.0, tt)
-  all_flow (Mix s o) fine = (fine.1.1.1.1.0, tt)
-  all_flow (Unmix s o) fine = (fine.1.1.1.1.0, tt)
-  all_flow (Rights s o u mask) fine = (fine.1.1.1.1.1.0, tt)
-  all_flow (Allow s u o) fine = tt
-  all_flow (Bar s u o) fine = tt
-
-  among_flow : (rest : List Flow) (k : Sort) (n : ℕ) (g : Goal) → AllFlow rest → Among rest k n g → m.flow (label_of t k n) (goal_label t g) ≡ true
+  among_flow : (rest : List Flow) (k : Sort) (n : ℕ) (g : Goal) → AllFlow m t rest → Among rest k n g → m.flow (label_of t k n) (goal_label t g) ≡ true
   among_flow [] k n g all a = absurd a
   among_flow (flows k' n' g' ∷ rest) k n g all (inl e) = subst (λ (x : ℕ). m.flow x (goal_label t g) ≡ true) (sym (cc (e.0, e.1))) (subst (λ (y : Goal). m.flow (label_of t k' n') (goal_label t y) ≡ true) (sym e.2) all.0)
   among_flow (flows k' n' g' ∷ rest) k n g all (inr a) = among_flow rest k n g all.1 a
 
   pub carried_flows : (c : Call) → AllFine (asks m t c) → (k : Sort) (n : ℕ) (g : Goal) → Among (carries t c) k n g → m.flow (label_of t k n) (goal_label t g) ≡ true
-  carried_flows c fine k n g a = among_flow (carries t c) k n g (all_flow c fine) a
+  carried_flows c fine k n g a = among_flow (carries t c) k n g (all_flow m t c fine) a
 
   -- the party stands on, and its label flows to what it is then
   abbrev Grown : Tables → Sort → ℕ → Type 0
