@@ -44,7 +44,7 @@ def judge(repo, crate, file, old, new, behind):
     out = (done.stdout + done.stderr).replace(repo + '/', '')
     if done.returncode == 0:
         return 'STILL PROVED', ''
-    if not re.search(r'logic=not-proved|not proved|error: `', out):
+    if re.search(r'error: (a declaration is a signature|unexpected|expected (a|an|the) )|error\[', out) or not re.search(r'logic=not-proved|not proved|error: `', out):
         return 'NOT JUDGED', (out.strip().splitlines() or ['nothing was said'])[-1][:240]
     where = '' if checked == crate else checked + ': '
     why = [where + l for l in out.splitlines() if re.search(r'error|not proved that|`search` found|not proved', l)]
