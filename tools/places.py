@@ -21,7 +21,7 @@ POINTS = {
     ],
     2: [
         (r"fn (put_)?(byte|u16|u64)(_if)?[<(]", "one for each width of a number"),
-        (r"if let Some\(mut x\) = slot", "one for each field that is set"),
+        (r"if let Some\(mut x\) = slot|let changed = slot\(", "one for each field that is set"),
         (r"fn (users|subjects|objects)_end\b", "one for each table"),
         (r"for \w+ in .* \{\n\s*if .* \{\n\s*return (true|false);", "one loop for each question of all entries"),
         (r"fn is_(container|program)\(", "one for each kind"),

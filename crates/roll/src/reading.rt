@@ -1,5 +1,8 @@
 //! Reads a roll into tables.
 ghost use Rattle.std.specs.Prelude.{◌≡◌};
+ghost use Rattle.std.specs.Ordering.{partial_le};
+ghost use Rattle.std.specs.Option.{option_partial_cmp};
+ghost use Rattle.roll.specs.contracts.places.PlacePartialOrd.TheImpl as order;
 ghost use Rattle.records.specs.Records.{InForm};
 ghost use Rattle.roll.specs.Rolls.{put_in, Says};
 
@@ -21,6 +24,13 @@ fn put(t: &mut Tables, r: &Record)
     }
 }
 
+/// Does a record at `next` come no later than the one at `last`, if there is one?
+fn is_not_behind(next: Option<Place>, last: Option<Place>) -> bool
+    ensures { result ≡ partial_le (option_partial_cmp (order.ghosts).partial_cmp) next last }
+{
+    next <= last
+}
+
 /// The tables that a roll says, or what is wrong with its first bad record.
 pub fn read_tables(bytes: &[u8]) -> Result<Tables, RecordFault>
     ensures { Says bytes.now result }
@@ -33,7 +43,7 @@ pub fn read_tables(bytes: &[u8]) -> Result<Tables, RecordFault>
         let first = c.place();
         let record = read_record(&mut c)?;
         let next = Some(Place::from(&record));
-        if next <= last {
+        if is_not_behind(next, last) {
             return Err(RecordFault::Order(first));
         }
         last = next;

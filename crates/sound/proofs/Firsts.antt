@@ -31,7 +31,7 @@ place Nesting = record { at = 6; near = omega arith; is = refl; number_is = refl
 place Mixed = record { at = 7; near = omega arith; is = refl; number_is = refl }
 
 -- two clauses with one place are the same
-same_number : (c d : Clause) → number c ≡ number d → c ≡ d
+pub same_number : (c d : Clause) → number c ≡ number d → c ≡ d
 same_number c d e =
     let p = place c in
     let q = place d in

@@ -4,7 +4,7 @@ ghost use Rattle.std.specs.Option.{option_map};
 ghost use Rattle.tables.specs.Changes.{put_subject, put_object, at_user, at_object, moved, relabelled, remixed, regranted, listing, unlisting, without_object};
 
 use crate::sets::Rights;
-use crate::slots::{change, put};
+use crate::slots::{put, slot};
 use crate::types::{Object, Subject, Tables, User};
 
 /// Takes object `o` off the allow list of each user.
@@ -19,7 +19,7 @@ fn strike(users: &mut [Option<User>], o: u8)
     }
 }
 
-// Kept: a method for each change, since calls name them so; what they share is `put` and `change`, and each is a line or two.
+// Kept: a method for each change, since calls name them so; what they share is `slot` and `put`, and each says what it sets.
 impl Tables {
     /// Puts a subject into slot `n`.
     pub fn add_subject(&mut self, n: u8, subject: Subject)
@@ -54,41 +54,59 @@ impl Tables {
     pub fn set_parent(&mut self, o: u8, p: u8)
         ensures { self.new ≡ at_object self.old o (moved p) }
     {
-        change(&mut self.objects, o, |x| x.parent = p);
+        let changed = slot(&self.objects, o).map(|x| Object { parent: p, ..*x });
+        put(&mut self.objects, o, changed);
     }
 
     /// Gives object `o` the label `label`.
     pub fn set_label(&mut self, o: u8, label: u64)
         ensures { self.new ≡ at_object self.old o (relabelled label) }
     {
-        change(&mut self.objects, o, |x| x.label = label);
+        let changed = slot(&self.objects, o).map(|x| Object { label, ..*x });
+        put(&mut self.objects, o, changed);
     }
 
     /// Marks object `o` as mixed, or as unmixed.
     pub fn set_mixed(&mut self, o: u8, mixed: bool)
         ensures { self.new ≡ at_object self.old o (remixed mixed) }
     {
-        change(&mut self.objects, o, |x| x.mixed = mixed);
+        let changed = slot(&self.objects, o).map(|x| Object { mixed, ..*x });
+        put(&mut self.objects, o, changed);
     }
 
     /// Gives `user` the set `rights` on object `o`, in place of the set that it had.
     pub fn set_rights(&mut self, o: u8, user: u8, rights: Rights)
         ensures { self.new ≡ at_object self.old o (regranted user rights) }
     {
-        change(&mut self.objects, o, |x| put(&mut x.rights, user, rights));
+        let changed = slot(&self.objects, o).map(|x| {
+            let mut object = *x;
+            put(&mut object.rights, user, rights);
+            object
+        });
+        put(&mut self.objects, o, changed);
     }
 
     /// Puts object `o` on the allow list of `user`.
     pub fn allow(&mut self, user: u8, o: u8)
         ensures { self.new ≡ at_user self.old user (listing o) }
     {
-        change(&mut self.users, user, |x| x.allowed.insert(o));
+        let changed = slot(&self.users, user).map(|x| {
+            let mut holder = *x;
+            holder.allowed.insert(o);
+            holder
+        });
+        put(&mut self.users, user, changed);
     }
 
     /// Takes object `o` off the allow list of `user`.
     pub fn bar(&mut self, user: u8, o: u8)
         ensures { self.new ≡ at_user self.old user (unlisting o) }
     {
-        change(&mut self.users, user, |x| x.allowed.remove(o));
+        let changed = slot(&self.users, user).map(|x| {
+            let mut holder = *x;
+            holder.allowed.remove(o);
+            holder
+        });
+        put(&mut self.users, user, changed);
     }
 }

@@ -1,6 +1,5 @@
 //! The slots of a table, by number. A slot past the end of the table holds nothing, and takes nothing.
 ghost use Rattle.std.specs.Prelude.{◌≡◌, Some, None, slice_index_or, slice_set};
-ghost use Rattle.std.specs.Fn.{FnOnceReturnsAtMut};
 ghost use Rattle.std.specs.Option.{option_map};
 
 /// What slot `i` holds, lent.
@@ -17,17 +16,5 @@ pub(crate) fn put<T: Copy>(table: &mut [T], i: u8, v: T)
     // Kept: `get_mut` was tried, and its proof didn't close: of the place that it lends one learns the table's length and none of its elements.
     if (i as usize) < table.len() {
         table[i as usize] = v;
-    }
-}
-
-/// Changes what slot `i` holds, if it holds something.
-pub(crate) fn change<T: Copy, F: FnOnce(&mut T)>(table: &mut [Option<T>], i: u8, change: F)
-    requires { F.IsAlwaysCallable change }
-    ensures { (g : T → T) → ((x y : T) → FnOnceReturnsAtMut F.FnOnce change x tt y → y ≡ g x) → table.new ≡ slice_set table.old i (option_map g (slice_index_or table.old i None)) }
-{
-    // Kept: the value is copied out and put back, since through `get_mut` one learns nothing of the other slots, as said at `put`.
-    if let Some(mut x) = slot(table, i).copied() {
-        change(&mut x);
-        put(table, i, Some(x));
     }
 }

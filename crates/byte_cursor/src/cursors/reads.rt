@@ -5,6 +5,13 @@ ghost use Rattle.byte_cursor.specs.Bytes.{left, Took, Part, Short, Number, Field
 use super::{Cursor, CursorFault};
 use crate::little::Little;
 
+/// The number of a field that is not there.
+fn absent<T: Little<N>, const N: usize>() -> T
+    ensures { T.value result ≡ 0 }
+{
+    T::ZERO
+}
+
 impl<'a> Cursor<'a> {
     /// At the first of the bytes.
     pub fn new(bytes: &'a [u8]) -> Cursor<'a>
@@ -77,7 +84,7 @@ impl<'a> Cursor<'a> {
     pub fn field<T: Little<N>, const N: usize>(&mut self, there: bool) -> Result<T, CursorFault>
         ensures { MatchResult result (λ v. Field N there self.old self.new (T.value v)) (Short (if there then N else 0) self.old self.new) }
     {
-        if there { self.number() } else { Ok(T::ZERO) }
+        if there { self.number() } else { Ok(absent()) }
     }
 
     /// The bytes that are yet to be read.
